@@ -8,5 +8,7 @@ pub mod Linking
 pub mod Walking
 pub mod Closing
 pub mod Playing
+pub mod Queueing
+pub mod Firsts
 pub mod Keying
 pub mod Naming

@@ -11,7 +11,7 @@ use Rattle.std.specs.Cmp.{IsTotalOrder, nat_cmp_total}
 use Rattle.std.proofs.lemmas.Cmp.{on_total, then_total}
 use Rattle.std.proofs.lemmas.Map.Lookups.{exact_unsigned}
 use Rattle.amr_tables.specs.Places.{value_at}
-use Rattle.amr_tables.specs.Earliest.{Earliest, moment_at, timer_at, winner_at, timer_cmp, later_winner, IsTournament, IsEarliest, AgreeOn}
+use Rattle.amr_tables.specs.Tournament.{Tournament, moment_at, timer_at, winner_at, timer_cmp, later_winner, IsTournament, AgreeOn}
 
 pub split : (a b : ℕ) → (a ≤ b) ⊎ (b < a)
 split zero b = inl (omega arith)
@@ -85,13 +85,22 @@ module _ {K : Type 0} {R : K → K → Ordering} (o : IsTotalOrder R) where
   kept : (x y : K) → is_lt (R x y) ≡ false → is_gt (R y x) ≡ false
   kept x y h = ap is_gt (o.antisymm y x) ∙ turned (R x y) ∙ h
 
-  itself : (x : K) → is_gt (R x x) ≡ false
+  pub itself : (x : K) → is_gt (R x x) ≡ false
   itself x = from (R x x) (o.antisymm x x)
     where
       from : (w : Ordering) → w ≡ ordering_reverse w → is_gt w ≡ false
       from Less e = refl
       from Equal e = refl
       from Greater e = cc
+
+  -- what the other is after is not after it
+  pub not_after_back : (x y : K) → is_gt (R x y) ≡ true → is_gt (R y x) ≡ false
+  not_after_back x y h = ap is_gt (o.antisymm y x) ∙ from (R x y) h
+    where
+      from : (w : Ordering) → is_gt w ≡ true → is_gt (ordering_reverse w) ≡ false
+      from Less e = cc
+      from Equal e = cc
+      from Greater e = refl
 
   then_not : (x y z : K) (v w : Ordering) → R x y ≡ v → R y z ≡ w → is_gt v ≡ false → is_gt w ≡ false → is_gt (R x z) ≡ false
   then_not x y z Less Less p q g h = ap is_gt (o.trans x y z p q)
@@ -102,6 +111,18 @@ module _ {K : Type 0} {R : K → K → Ordering} (o : IsTotalOrder R) where
 
   pub not_after_then : (x y z : K) → is_gt (R x y) ≡ false → is_gt (R y z) ≡ false → is_gt (R x z) ≡ false
   not_after_then x y z g h = then_not x y z (R x y) (R y z) refl refl g h
+
+-- what is not after another is earlier, or of the same moment and not put after it
+pub not_before : (m x : ℕ) (r : Ordering) → is_gt (ordering_then (nat_cmp m x) r) ≡ false → (m < x) ⊎ ((m ≡ x) × (r ≢ Greater))
+not_before m x r h = from (nat_cmp m x) refl h
+  where
+    no : is_gt Greater ≡ false → ⊥
+    no e = cc
+
+    from : (o : Ordering) → nat_cmp m x ≡ o → is_gt (ordering_then o r) ≡ false → (m < x) ⊎ ((m ≡ x) × (r ≢ Greater))
+    from Less e h = inl (grind (arith, nat_tests))
+    from Equal e h = inr (exact_unsigned m x e, λ g. no (subst (λ o. is_gt o ≡ false) g h))
+    from Greater e h = cc
 
 -- ---- nodes above others
 
@@ -116,7 +137,7 @@ halves n = parity n (n / 2) (n % 2) (mod-lt n (omega arith)) (div-add-mod n 2)
 
 -- ---- who wins
 
-module _ (rank : ℕ → ℕ → Ordering) (t : Earliest) where
+module _ (rank : ℕ → ℕ → Ordering) (t : Tournament) where
   abbrev cmp : ℕ → ℕ → Ordering
   cmp a b = timer_cmp rank (timer_at t a) (timer_at t b)
 
@@ -165,28 +186,16 @@ module _ (rank : ℕ → ℕ → Ordering) (t : Earliest) where
         subst (λ x. is_gt (cmp (winner_at t 1) x) ≡ false) (leaf n)
         (first_of (length t.moments + n) (length t.moments + n) (omega arith) (omega (arith, within)) (omega (arith, within)))
 
-    -- a winner that has a moment is the earliest
-    pub earliest : (moment : ℕ) → moment_at t (winner_at t 1) ≡ Some moment → IsEarliest rank t (winner_at t 1)
-    earliest moment is = (moment, is, λ other x at. not_before other x at (split (length t.moments) other))
+    -- a winner that has a moment is not after any other number
+    pub winner_first : (moment other x : ℕ) → moment_at t (winner_at t 1) ≡ Some moment → moment_at t other ≡ Some x → is_gt (timer_cmp rank (Some moment, winner_at t 1) (Some x, other)) ≡ false
+    winner_first moment other x is at = by (split (length t.moments) other)
       where
-        w : ℕ
-        w = winner_at t 1
+        some_or_none : None ≡ Some x → ⊥
+        some_or_none e = cc
 
-        no : is_gt Greater ≡ false → ⊥
-        no e = cc
-
-        from : (m x : ℕ) (o r : Ordering) → nat_cmp m x ≡ o → is_gt (ordering_then o r) ≡ false → (m < x) ⊎ ((m ≡ x) × (r ≢ Greater))
-        from m x Less r e h = inl (grind (arith, nat_tests))
-        from m x Equal r e h = inr (exact_unsigned m x e, λ g. no (subst (λ o. is_gt o ≡ false) g h))
-        from m x Greater r e h = cc
-
-        not_before : (other x : ℕ) → moment_at t other ≡ Some x → (length t.moments ≤ other) ⊎ (other < length t.moments) → (moment < x) ⊎ ((moment ≡ x) × (rank (winner_at t 1) other ≢ Greater))
-        not_before other x at (inl late) = absurd (some_or_none x (sym (past t.moments other late) ∙ at))
-          where
-            some_or_none : (x : ℕ) → None ≡ Some x → ⊥
-            some_or_none x e = cc
-        not_before other x at (inr within) =
-            from moment x (nat_cmp moment x) (rank w other) refl (subst (λ (p : Option ℕ × Option ℕ). is_gt (timer_cmp rank (p.0, w) (p.1, other)) ≡ false) (λ i. (is i, at i)) (first_of_all other within))
+        by : (length t.moments ≤ other) ⊎ (other < length t.moments) → is_gt (timer_cmp rank (Some moment, winner_at t 1) (Some x, other)) ≡ false
+        by (inl late) = absurd (some_or_none (sym (past t.moments other late) ∙ at))
+        by (inr within) = subst (λ (p : Option ℕ × Option ℕ). is_gt (timer_cmp rank (p.0, winner_at t 1) (p.1, other)) ≡ false) (λ i. (is i, at i)) (first_of_all other within)
 
     -- a winner without a moment has beaten none that has one
     pub none_earlier : moment_at t (winner_at t 1) ≡ None → (n : ℕ) → moment_at t n ≡ None
@@ -202,11 +211,11 @@ module _ (rank : ℕ → ℕ → Ordering) (t : Earliest) where
 
 -- ---- what a new winner changes
 
-winner_apart : (t : Earliest) (node w other : ℕ) → other ≢ node → winner_at (record t { winners = slice_set t.winners node w }) other ≡ winner_at t other
+winner_apart : (t : Tournament) (node w other : ℕ) → other ≢ node → winner_at (record t { winners = slice_set t.winners node w }) other ≡ winner_at t other
 winner_apart t node w other apart =
     ap (λ x. if nat_lt other (length t.moments) then x else other - length t.moments) (get_or-set_other t.winners node other w 0 apart)
 
-winner_new : (t : Earliest) (node w : ℕ) → node < length t.moments → length t.winners ≡ length t.moments → winner_at (record t { winners = slice_set t.winners node w }) node ≡ w
+winner_new : (t : Tournament) (node w : ℕ) → node < length t.moments → length t.winners ≡ length t.moments → winner_at (record t { winners = slice_set t.winners node w }) node ≡ w
 winner_new t node w inner nodes =
     ap (λ b. if b then get_or (slice_set t.winners node w) node 0 else node - length t.moments) (inner_is node (length t.moments) inner)
     ∙ get_or-set_same t.winners node w 0 (omega (arith, inner, nodes))
@@ -215,18 +224,18 @@ winner_new t node w inner nodes =
     inner_is a b h = grind (arith, nat_tests)
 
 module _ (rank : ℕ → ℕ → Ordering) where
-  later_alike : (t u : Earliest) (node : ℕ) → u.moments ≡ t.moments → winner_at u (node * 2) ≡ winner_at t (node * 2) → winner_at u (node * 2 + 1) ≡ winner_at t (node * 2 + 1) → later_winner rank u node ≡ later_winner rank t node
+  later_alike : (t u : Tournament) (node : ℕ) → u.moments ≡ t.moments → winner_at u (node * 2) ≡ winner_at t (node * 2) → winner_at u (node * 2 + 1) ≡ winner_at t (node * 2 + 1) → later_winner rank u node ≡ later_winner rank t node
   later_alike t u node moments left right =
       λ i. if is_lt (timer_cmp rank (value_at (moments i) (right i), right i) (value_at (moments i) (left i), left i)) then right i else left i
 
   -- a node was played: it has its winner, and the others whose winners it isn't below keep theirs
-  pub played_here : (t : Earliest) (node : ℕ) → 1 ≤ node → node < length t.moments → length t.winners ≡ length t.moments
+  pub played_here : (t : Tournament) (node : ℕ) → 1 ≤ node → node < length t.moments → length t.winners ≡ length t.moments
       → winner_at (record t { winners = slice_set t.winners node (later_winner rank t node) }) node ≡ later_winner rank (record t { winners = slice_set t.winners node (later_winner rank t node) }) node
   played_here t node one inner nodes =
       winner_new t node (later_winner rank t node) inner nodes
       ∙ sym (later_alike t _ node refl (winner_apart t node _ (node * 2) (λ e. absurd (omega (arith, e, one)))) (winner_apart t node _ (node * 2 + 1) (λ e. absurd (omega (arith, e, one)))))
 
-  pub played_there : (t : Earliest) (node w j : ℕ) → j ≢ node → j * 2 ≢ node → j * 2 + 1 ≢ node → winner_at t j ≡ later_winner rank t j
+  pub played_there : (t : Tournament) (node w j : ℕ) → j ≢ node → j * 2 ≢ node → j * 2 + 1 ≢ node → winner_at t j ≡ later_winner rank t j
       → winner_at (record t { winners = slice_set t.winners node w }) j ≡ later_winner rank (record t { winners = slice_set t.winners node w }) j
   played_there t node w j apart left right played =
       winner_apart t node w j apart ∙ played
@@ -236,7 +245,7 @@ module _ (rank : ℕ → ℕ → Ordering) where
 
 -- The tables t, after a number got a new moment, and u, after matches were played from the number's
 -- own node up to this one.
-pub record IsClimbed (rank : ℕ → ℕ → Ordering) (n : ℕ) (t u : Earliest) (node : ℕ) : Type 0 where
+pub record IsClimbed (rank : ℕ → ℕ → Ordering) (n : ℕ) (t u : Tournament) (node : ℕ) : Type 0 where
   pub either : (j : ℕ) → 1 ≤ j → j < length t.moments → (winner_at t (j * 2) ≡ winner_at t j) ⊎ (winner_at t (j * 2 + 1) ≡ winner_at t j)
   -- matches of other numbers stand
   pub stand : (j : ℕ) → 1 ≤ j → j < length t.moments → winner_at t (j * 2) ≢ n → winner_at t (j * 2 + 1) ≢ n → winner_at t j ≡ later_winner rank t j
@@ -245,7 +254,7 @@ pub record IsClimbed (rank : ℕ → ℕ → Ordering) (n : ℕ) (t u : Earliest
   pub same : (j : ℕ) → j < node * 2 → j ≢ node → winner_at u j ≡ winner_at t j
   pub played : (j : ℕ) → 1 ≤ j → j < length t.moments → node < j * 2 → winner_at u j ≡ later_winner rank u j
 
-module _ (rank : ℕ → ℕ → Ordering) (t : Earliest) (played : IsTournament rank t) where
+module _ (rank : ℕ → ℕ → Ordering) (t : Tournament) (played : IsTournament rank t) where
   own_node : (n : ℕ) → winner_at t (length t.moments + n) ≡ n
   own_node n = grind (arith, nat_tests)
 
@@ -280,7 +289,7 @@ module _ (rank : ℕ → ℕ → Ordering) (t : Earliest) (played : IsTournament
           by_side (inr is) = raised (p * 2 + 1) (omega arith) (right (is ∙ wins))
 
   module _ (n : ℕ) (moment : Option ℕ) (len : length (slice_set t.moments n moment) ≡ length t.moments) where
-    abbrev changed : Earliest
+    abbrev changed : Tournament
     changed = record t { moments = slice_set t.moments n moment }
 
     as_before : (p : ℕ) → winner_at changed p ≡ winner_at t p
@@ -321,7 +330,7 @@ module _ (rank : ℕ → ℕ → Ordering) (t : Earliest) (played : IsTournament
         sides j (inr is) = inr (as_before (j * 2 + 1) ∙ is ∙ sym (as_before j))
 
 -- the two are equal, or not
-same_or_apart : (a b : ℕ) → (a ≡ b) ⊎ (a ≢ b)
+pub same_or_apart : (a b : ℕ) → (a ≡ b) ⊎ (a ≢ b)
 same_or_apart a b = from (split a b) (split b a)
   where
     from : (a ≤ b) ⊎ (b < a) → (b ≤ a) ⊎ (a < b) → (a ≡ b) ⊎ (a ≢ b)
@@ -329,14 +338,14 @@ same_or_apart a b = from (split a b) (split b a)
     from (inr h) q = inr (λ e. absurd (omega (arith, h, e)))
     from (inl h) (inr k) = inr (λ e. absurd (omega (arith, k, e)))
 
-module _ (rank : ℕ → ℕ → Ordering) (t u : Earliest) (node : ℕ) (is : u ≡ record t { winners = slice_set t.winners node (later_winner rank t node) })
+module _ (rank : ℕ → ℕ → Ordering) (t u : Tournament) (node : ℕ) (is : u ≡ record t { winners = slice_set t.winners node (later_winner rank t node) })
     (one : 1 ≤ node) (inner : node < length t.moments) (nodes : length t.winners ≡ length t.moments) where
   len_is : length u.moments ≡ length t.moments
-  len_is = ap (λ (x : Earliest). length x.moments) is
+  len_is = ap (λ (x : Tournament). length x.moments) is
 
   moved : (j : ℕ) → winner_at (record t { winners = slice_set t.winners node (later_winner rank t node) }) j ≡ later_winner rank (record t { winners = slice_set t.winners node (later_winner rank t node) }) j
       → winner_at u j ≡ later_winner rank u j
-  moved j = subst (λ (x : Earliest). winner_at x j ≡ later_winner rank x j) (sym is)
+  moved j = subst (λ (x : Tournament). winner_at x j ≡ later_winner rank x j) (sym is)
 
   -- after the last nodes a node was played
   pub played_from : ((j : ℕ) → 1 ≤ j → node < j → j < length t.moments → winner_at t j ≡ later_winner rank t j)
@@ -349,9 +358,9 @@ module _ (rank : ℕ → ℕ → Ordering) (t u : Earliest) (node : ℕ) (is : u
           let after : node < j = grind (arith, from, apart) in
           played_there rank t node (later_winner rank t node) j apart (λ e. absurd (omega (arith, after, e))) (λ e. absurd (omega (arith, after, e))) (played j some after (omega (arith, within, len_is)))
 
-module _ (rank : ℕ → ℕ → Ordering) (n : ℕ) (t u : Earliest) (node : ℕ) (climbed : IsClimbed rank n t u node) (moments : u.moments ≡ t.moments) where
+module _ (rank : ℕ → ℕ → Ordering) (n : ℕ) (t u : Tournament) (node : ℕ) (climbed : IsClimbed rank n t u node) (moments : u.moments ≡ t.moments) where
   -- a match of other numbers stands where the winners are as before
-  left : (v : Earliest) → v.moments ≡ t.moments → (j : ℕ) → 1 ≤ j → j < length t.moments → winner_at v j ≡ winner_at t j → winner_at v (j * 2) ≡ winner_at t (j * 2) → winner_at v (j * 2 + 1) ≡ winner_at t (j * 2 + 1)
+  left : (v : Tournament) → v.moments ≡ t.moments → (j : ℕ) → 1 ≤ j → j < length t.moments → winner_at v j ≡ winner_at t j → winner_at v (j * 2) ≡ winner_at t (j * 2) → winner_at v (j * 2 + 1) ≡ winner_at t (j * 2 + 1)
       → winner_at t (j * 2) ≢ n → winner_at t (j * 2 + 1) ≢ n → winner_at v j ≡ later_winner rank v j
   left v alike j one inner here l r not_l not_r = here ∙ climbed.stand j one inner not_l not_r ∙ sym (later_alike rank t v j alike l r)
 
@@ -436,7 +445,7 @@ module _ (rank : ℕ → ℕ → Ordering) (n : ℕ) (t u : Earliest) (node : �
     pub half_as_was : winner_at u (node / 2) ≡ winner_at t (node / 2)
     half_as_was = climbed.same (node / 2) (omega (arith, low, one)) (λ e. absurd (omega (arith, e, low, one)))
 
-    abbrev half_played : Earliest
+    abbrev half_played : Tournament
     half_played = record u { winners = slice_set u.winners (node / 2) (later_winner rank u (node / 2)) }
 
     same_half : (j : ℕ) → j < node / 2 * 2 → j ≢ node / 2 → winner_at half_played j ≡ winner_at t j
@@ -461,7 +470,7 @@ module _ (rank : ℕ → ℕ → Ordering) (n : ℕ) (t u : Earliest) (node : �
             (λ wins. absurd (omega (arith, at_half (j * 2 + 1) (omega arith) (omega (arith, less)) wins, late)))
 
     -- the node above was played
-    pub climbs : (v : Earliest) → v ≡ half_played → IsClimbed rank n t v (node / 2)
+    pub climbs : (v : Tournament) → v ≡ half_played → IsClimbed rank n t v (node / 2)
     climbs v is = subst (λ x. IsClimbed rank n t x (node / 2)) (sym is) (record {
       either = climbed.either;
       stand = climbed.stand;
@@ -485,7 +494,7 @@ half_bounds node n h within = from (halves node)
 
 -- ---- another order of the same numbers
 
-module _ (rank other : ℕ → ℕ → Ordering) (t : Earliest) (agree : AgreeOn t rank other) where
+module _ (rank other : ℕ → ℕ → Ordering) (t : Tournament) (agree : AgreeOn t rank other) where
   same_match : (m n : Option ℕ) (a b : ℕ) → moment_at t a ≡ m → moment_at t b ≡ n → timer_cmp other (m, a) (n, b) ≡ timer_cmp rank (m, a) (n, b)
   same_match (Some m) (Some n) a b p q = ap (ordering_then (nat_cmp m n)) (sym (agree a b m n p q))
   same_match (Some m) None a b p q = refl

@@ -1,49 +1,86 @@
 -- Moments by number, and which of them is the earliest.
-use Rattle.std.specs.Prelude.{◌⊎◌, ◌≡◌, ◌≢◌, ℕ, ◌≤◌, ◌<◌, ◌+◌, ◌-◌, ◌*◌, List, Option, None, Some, length, get_or, nat_lt, if◌then◌else◌}
+use Rattle.std.specs.Prelude.{◌⊎◌, ◌≡◌, ◌≢◌, ℕ, ◌<◌, Bool, true, not, List, [], ◌∷◌, Option, None, Some}
 use Rattle.std.specs.declared.cmp.Ordering.{Ordering}
-use Rattle.std.specs.declared.cmp.Ordering.TheVariants.{Less, Equal, Greater}
+use Rattle.std.specs.declared.cmp.Ordering.TheVariants.{Greater}
+use Rattle.std.specs.Ordering.{is_gt}
 use Rattle.amr_tables.specs.Places.{value_at}
-use Rattle.std.specs.Ordering.{nat_cmp, ordering_then, is_lt}
+use Rattle.amr_tables.specs.declared.earliest.Turn.{Turn}
+use Rattle.amr_tables.specs.Tournament.{Tournament, timer_cmp, first_of, IsTournament}
+use Rattle.amr_tables.specs.Tournament as tournament
 
--- the moment of each number, if it has one, and the winner of each inner node
+-- The moment of each number, if it has one. Each such moment stands in the queue, or among the rest.
 pub record Earliest : Type 0 where
   pub moments : List (Option ℕ)
-  pub winners : List ℕ
+  pub queue : List Turn
+  pub rest : Tournament
 
 -- the moment of a number, if it has one
 abbrev pub moment_at : Earliest → ℕ → Option ℕ
 moment_at e n = value_at e.moments n
 
--- a number with its moment
-abbrev pub timer_at : Earliest → ℕ → Option ℕ × ℕ
-timer_at t n = (moment_at t n, n)
+-- a moment of a number stands in a queue
+abbrev pub StandsIn : List Turn → Turn → Type 0
+StandsIn [] w = ⊥
+StandsIn (first ∷ queue) w = (first ≡ w) ⊎ StandsIn queue w
 
--- who wins a node: a number at its own node, and else who was noted
-abbrev pub winner_at : Earliest → ℕ → ℕ
-winner_at t node = if nat_lt node (length t.moments) then get_or t.winners node 0 else node - length t.moments
+-- a moment of a number stands in the queue or among the rest
+abbrev pub Stands : Earliest → Turn → Type 0
+Stands e w = StandsIn e.queue w ⊎ (tournament.moment_at e.rest w.number ≡ Some w.moment)
+
+-- the number has a moment, or had one that still stands
+abbrev pub IsHeld : Earliest → ℕ → Type 0
+IsHeld e n = (m : ℕ) × Stands e (record { moment = m; number = n })
+
+-- the number still has this moment
+abbrev pub IsCurrent : Earliest → Turn → Type 0
+IsCurrent e w = moment_at e w.number ≡ Some w.moment
+
+-- there is a moment that the number doesn't have any more
+abbrev pub IsOutdated : Earliest → Option Turn → Type 0
+IsOutdated e None = ⊥
+IsOutdated e (Some w) = IsCurrent e w → ⊥
+
+-- the first of the queue is current
+abbrev pub IsFrontCurrent : Earliest → List Turn → Type 0
+IsFrontCurrent e [] = Unit {0}
+IsFrontCurrent e (first ∷ queue) = IsCurrent e first
+
+-- the earliest of the rest is current
+abbrev pub IsWinnerCurrent : Earliest → Type 0
+IsWinnerCurrent e = (n : ℕ) → first_of e.rest ≡ Some n → tournament.moment_at e.rest n ≡ moment_at e n
 
 module _ (rank : ℕ → ℕ → Ordering) where
-  -- the earlier moment is first; of equal moments, the number that the order puts first; a number
-  -- without a moment is last
-  abbrev pub timer_cmp : Option ℕ × ℕ → Option ℕ × ℕ → Ordering
-  timer_cmp (Some moment, a) (Some other, b) = ordering_then (nat_cmp moment other) (rank a b)
-  timer_cmp (Some moment, a) (None, b) = Less
-  timer_cmp (None, a) (Some other, b) = Greater
-  timer_cmp (None, a) (None, b) = Equal
+  -- the first isn't later and, if both are of one moment, isn't put after the second
+  abbrev pub is_in_order : Turn → Turn → Bool
+  is_in_order a b = not (is_gt (timer_cmp rank (Some a.moment, a.number) (Some b.moment, b.number)))
 
-  -- who wins of the winners of the two nodes below
-  abbrev pub later_winner : Earliest → ℕ → ℕ
-  later_winner t node =
-      if is_lt (timer_cmp (timer_at t (winner_at t (node * 2 + 1))) (timer_at t (winner_at t (node * 2)))) then winner_at t (node * 2 + 1) else winner_at t (node * 2)
+  abbrev pub are_in_order : Option Turn → Option Turn → Bool
+  are_in_order (Some a) (Some b) = is_in_order a b
+  are_in_order (Some a) None = true
+  are_in_order None b = true
 
-  -- at each inner node the winner of those below is noted
-  abbrev pub IsTournament : Earliest → Type 0
-  IsTournament t = (node : ℕ) → 1 ≤ node → node < length t.moments → winner_at t node ≡ later_winner t node
+  -- each moment of a queue is in order with the next
+  abbrev pub IsQueue : List Turn → Type 0
+  IsQueue [] = Unit {0}
+  IsQueue (w ∷ []) = Unit {0}
+  IsQueue (w ∷ x ∷ queue) = (is_in_order w x ≡ true) × IsQueue (x ∷ queue)
+
+  -- the queue and the rest have all moments, each in its order
+  pub record AreKept (e : Earliest) : Type 0 where
+    pub queue : IsQueue e.queue
+    pub rest : IsTournament rank e.rest
+    pub stands : (w : Turn) → IsCurrent e w → Stands e w
+
+  -- and the first of both are current
+  pub record IsOrdered (e : Earliest) : Type 0 where
+    pub kept : AreKept e
+    pub front : IsFrontCurrent e e.queue
+    pub winner : IsWinnerCurrent e
 
   -- no number has an earlier moment, and of those with the same moment the order puts none before
   abbrev pub IsEarliest : Earliest → ℕ → Type 0
   IsEarliest e n = (m : ℕ) × (moment_at e n ≡ Some m) × ((j x : ℕ) → moment_at e j ≡ Some x → (m < x) ⊎ ((m ≡ x) × (rank n j ≢ Greater)))
 
--- the orders agree on all numbers that have moments
+-- the orders agree on all numbers that are held
 abbrev pub AgreeOn : Earliest → (ℕ → ℕ → Ordering) → (ℕ → ℕ → Ordering) → Type 0
-AgreeOn e rank other = (a b x y : ℕ) → moment_at e a ≡ Some x → moment_at e b ≡ Some y → rank a b ≡ other a b
+AgreeOn e rank other = (a b : ℕ) → IsHeld e a → IsHeld e b → rank a b ≡ other a b

@@ -3,4 +3,5 @@ pub mod Records
 pub mod Numbered
 pub mod Members
 pub mod Grouped
+pub mod Tournament
 pub mod Earliest

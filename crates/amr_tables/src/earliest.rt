@@ -1,27 +1,38 @@
 //! Moments by number, and which of them is the earliest. The pending timers are kept like this, by
 //! the numbers of alerts and groups. All memory is taken before a moment is set, so that undoing an
 //! event takes none.
-ghost use Rattle.std.specs.Prelude.{◌≡◌, ◌≢◌, true, false, ◌<◌, ◌≤◌, ◌*◌, ◌+◌, ◌-◌, ℕ, [], None, Some, length, OnOk, IfSome, IfNone, slice_set, if◌then◌else◌};
+ghost use Rattle.std.specs.Prelude.{◌≡◌, ◌≢◌, true, false, ◌<◌, ◌≤◌, ◌⊎◌, ℕ, [], None, Some, length, OnOk, IfSome, IfNone, slice_set, slice_get, option_map};
+ghost use Rattle.std.specs.List.{last_or};
 ghost use Rattle.std.specs.declared.cmp.Ordering.{Ordering};
-ghost use Rattle.std.specs.Ordering.{is_lt};
 ghost use Rattle.std.specs.Cmp.{IsTotalOrder};
-ghost use Rattle.amr_tables.specs.Earliest.{moment_at, winner_at, timer_at, timer_cmp, later_winner, IsTournament, IsEarliest};
+ghost use Rattle.amr_tables.specs.Tournament.{first_of};
+ghost use Rattle.amr_tables.specs.Tournament as tournament;
+ghost use Rattle.amr_tables.specs.Earliest.{moment_at, StandsIn, IsHeld, IsCurrent, IsOutdated, IsFrontCurrent, IsWinnerCurrent, are_in_order, is_in_order, AreKept, IsOrdered, IsEarliest};
 
+use crate::moment::is_same;
 use crate::ranking::Ranking;
+use crate::tournament::Tournament;
 use std::alloc::{AllocError, Global};
 use std::cmp::Ordering;
+use std::collections::VecDeque;
 use std::marker::Model;
-use std::mem;
 
-/// Moments by number, in nanoseconds since 1970; a number may have none. The numbers play a
-/// tournament, which the earliest moment wins: of the nodes from 1 on, those from the number of
-/// numbers on are the numbers themselves, and at each other node k plays the winner of node 2k
-/// against that of node 2k + 1. A new moment of a number changes only the nodes above it.
+/// A moment, in nanoseconds since 1970, and the number that it was set for.
+#[derive(Clone, Copy)]
+struct Turn {
+    moment: u128,
+    number: usize,
+}
+
+/// Moments by number, in nanoseconds since 1970; a number may have none. Most groups that are
+/// flushed are flushed again after all others, so moments that come in order stand in a queue, where
+/// setting one takes no search. The others play a tournament. Of a number that got another moment,
+/// the former stays where it is until it is an end of the queue or wins.
 #[derive(Drop)]
 pub struct Earliest {
-    alloc: Global,
     moments: Vec<Option<u128>>,
-    winners: Vec<usize>,
+    queue: VecDeque<Turn>,
+    rest: Tournament,
 }
 
 impl Model for Earliest {
@@ -32,31 +43,25 @@ impl Model for Earliest {
 
     ghost coded = { Prim.hlevel codes };
 
-    ghost view = { λ e. record { moments = e.moments.items; winners = e.winners.items } };
+    ghost view = { λ e. record { moments = e.moments.items; queue = e.queue.items; rest = e.rest } };
 
-    ghost use Rattle.std.specs.Prelude.{◌≡◌, length};
+    ghost use Rattle.std.specs.Prelude.{◌≤◌, length};
 
-    ghost invariant = { λ e. length e.winners.items ≡ length e.moments.items };
+    ghost invariant = { λ e. length e.moments.items ≤ length e.rest.moments };
 }
 
 impl Earliest {
     /// Builds a table without numbers.
     pub fn new(alloc: Global) -> Earliest
         ensures moments { result.moments ≡ [] }
-        ensures kept { (rank : ℕ → ℕ → Ordering) → IsTournament rank result }
+        ensures held { (n : ℕ) → IsHeld result n → ⊥ }
+        ensures kept { (rank : ℕ → ℕ → Ordering) → IsOrdered rank result }
     {
         Earliest {
-            alloc,
             moments: Vec::new(alloc),
-            winners: Vec::new(alloc),
+            queue: VecDeque::new(alloc),
+            rest: Tournament::new(alloc),
         }
-    }
-
-    /// Returns how many numbers may have a moment.
-    pub fn len(&self) -> usize
-        ensures { result ≡ length self.now.moments }
-    {
-        self.moments.len()
     }
 
     /// Returns the moment of a number, if it has one.
@@ -72,132 +77,222 @@ impl Earliest {
     /// Makes room for the numbers below `count`, which have no moment yet. It makes at least twice
     /// the room that there is, since all matches are played anew.
     pub fn reserve<O: Ranking>(&mut self, order: &O, count: usize) -> Result<(), AllocError>
-        requires { IsTournament (O.rank order.now) self.old }
+        requires { IsOrdered (O.rank order.now) self.old }
         ensures room { OnOk result (count ≤ length self.new.moments) }
         ensures more { length self.old.moments ≤ length self.new.moments }
         ensures same { (n : ℕ) → moment_at self.new n ≡ moment_at self.old n }
-        ensures kept { IsTournament (O.rank order.now) self.new }
+        ensures held { (n : ℕ) → IsHeld self.new n → IsHeld self.old n }
+        ensures kept { IsOrdered (O.rank order.now) self.new }
     {
-        let numbers = self.moments.len();
-        if count <= numbers {
+        if count <= self.moments.len() {
             return Ok(());
         }
-        let enough = count.max(numbers.saturating_mul(2));
-        let mut winners = Vec::new(self.alloc);
-        winners.resize(enough, 0)?;
-        self.moments.resize(enough, None)?;
-        self.winners = winners;
-        self.play_all(order);
-        Ok(())
+        self.rest.reserve(order, count)?;
+        self.drop_winners(order);
+        let enough = self.rest.len();
+        self.moments.resize(enough, None)
     }
 
-    /// Plays all matches anew, the last nodes first.
-    fn play_all<O: Ranking>(&mut self, order: &O)
-        ensures moments { self.new.moments ≡ self.old.moments }
-        ensures kept { IsTournament (O.rank order.now) self.new }
+    /// Makes room in the queue for as many moments as there are numbers. Without it, fewer stand
+    /// there, or none.
+    pub fn reserve_queue(&mut self) -> Result<(), AllocError>
+        ensures { self.new ≡ self.old }
     {
-        let mut node = self.moments.len();
-        while node > 1 {
-            node -= 1;
-            self.play(order, node);
-        }
+        let numbers = self.moments.len();
+        let more = numbers.saturating_sub(self.queue.len());
+        self.queue.reserve(more)
     }
 
-    /// Sets or removes the moment of a number. Plays no match if the number has it already, and none
-    /// above one that another number wins as before. It takes no memory.
+    /// Sets or removes the moment of a number. It takes no memory, and next to no time if the moment
+    /// is the last or the first of the queue.
     #[inline(never)]
     pub fn set<O: Ranking>(&mut self, order: &O, number: usize, moment: Option<u128>)
         requires room { number < length self.old.moments }
-        requires kept { IsTournament (O.rank order.now) self.old }
+        requires kept { IsOrdered (O.rank order.now) self.old }
         ensures moments { self.new.moments ≡ slice_set self.old.moments number moment }
-        ensures kept { IsTournament (O.rank order.now) self.new }
+        ensures held { (n : ℕ) → IsHeld self.new n → IsHeld self.old n ⊎ (n ≡ number) }
+        ensures kept { IsOrdered (O.rank order.now) self.new }
     {
         if is_same(self.at(number), moment) {
             return;
         }
-        self.moments[number] = moment;
-        let mut node = self.moments.len() + number;
-        while node > 1 {
-            node /= 2;
-            let former = self.play(order, node);
-            if former != number && self.winner(node) == former {
-                return;
-            }
+        match moment {
+            None => self.moments[number] = None,
+            Some(moment) => self.insert(order, Turn { moment, number }),
         }
-    }
-
-    /// Lets the winners below a node play, and notes who wins. Returns who won there before. A new
-    /// moment plays a dozen matches, so a call would cost a sixth of each.
-    #[inline(always)]
-    fn play<O: Ranking>(&mut self, order: &O, node: usize) -> usize
-        requires first { 1 ≤ node }
-        requires inner { node < length self.old.moments }
-        ensures former { result ≡ winner_at self.old node }
-        ensures moments { self.new.moments ≡ self.old.moments }
-        ensures winners { self.new.winners ≡ slice_set self.old.winners node
-            (later_winner (O.rank order.now) self.old node) }
-    {
-        let left = self.winner(node * 2);
-        let right = self.winner(node * 2 + 1);
-        let is_right = self.is_before(order, right, left);
-        let winner = if is_right { right } else { left };
-        mem::replace(&mut self.winners[node], winner)
-    }
-
-    /// Returns the winner of a node.
-    fn winner(&self, node: usize) -> usize
-        ensures { result ≡ winner_at self.now node }
-    {
-        let numbers = self.moments.len();
-        if node < numbers {
-            self.winners[node]
-        } else {
-            node - numbers
-        }
-    }
-
-    /// Returns whether the moment of a number is before that of another or, if they are equal, the
-    /// order puts the number first. A number without a moment is last.
-    fn is_before<O: Ranking>(&self, order: &O, a: usize, b: usize) -> bool
-        ensures { result
-            ≡ is_lt (timer_cmp (O.rank order.now) (timer_at self.now a) (timer_at self.now b)) }
-    {
-        match (self.at(a), self.at(b)) {
-            (Some(moment), Some(other)) => {
-                moment < other || (moment == other && order.compare(a, b) == Ordering::Less)
-            }
-            (Some(_), None) => true,
-            (None, _) => false,
-        }
+        self.drop_first();
+        self.drop_winners(order);
     }
 
     /// Returns the number with the earliest moment; of equal moments, the one that the order puts
     /// first.
-    pub fn first(&self) -> Option<usize>
-        ensures some { IfSome result (λ n. (rank : ℕ → ℕ → Ordering) → IsTotalOrder rank
-            → IsTournament rank self.now → IsEarliest rank self.now n) }
-        ensures none { IfNone result ((rank : ℕ → ℕ → Ordering) → IsTotalOrder rank
-            → IsTournament rank self.now → (n : ℕ) → moment_at self.now n ≡ None) }
+    pub fn first<O: Ranking>(&self, order: &O) -> Option<usize>
+        requires { IsOrdered (O.rank order.now) self.now }
+        ensures some { IfSome result (λ n. IsTotalOrder (O.rank order.now)
+            → IsEarliest (O.rank order.now) self.now n) }
+        ensures none { IfNone result (IsTotalOrder (O.rank order.now)
+            → (n : ℕ) → moment_at self.now n ≡ None) }
     {
-        if self.moments.is_empty() {
+        match (self.front(), self.winner()) {
+            (None, None) => None,
+            (Some(front), None) => Some(front.number),
+            (None, Some(winner)) => Some(winner.number),
+            (Some(front), Some(winner)) => {
+                if is_in_order(order, front, winner) {
+                    Some(front.number)
+                } else {
+                    Some(winner.number)
+                }
+            }
+        }
+    }
+
+    /// Returns the first moment of the queue.
+    fn front(&self) -> Option<Turn>
+        ensures { result ≡ slice_get self.now.queue 0 }
+    {
+        self.queue.front().copied()
+    }
+
+    /// Returns the last moment of the queue.
+    fn last(&self) -> Option<Turn>
+        ensures { result ≡ last_or None self.now.queue }
+    {
+        self.queue.back().copied()
+    }
+
+    /// Returns the earliest of the rest.
+    fn winner(&self) -> Option<Turn>
+        ensures number { option_map (λ w. w.number) result ≡ first_of self.now.rest }
+        ensures moment { IfSome result (λ w.
+            tournament.moment_at self.now.rest w.number ≡ Some w.moment) }
+    {
+        let number = self.rest.first()?;
+        let moment = self.rest.at(number)?;
+        Some(Turn { moment, number })
+    }
+
+    /// Sets the moment of a number: at an end of the queue if it is in order there, else among the
+    /// rest.
+    fn insert<O: Ranking>(&mut self, order: &O, turn: Turn)
+        requires room { turn.number < length self.old.moments }
+        requires kept { AreKept (O.rank order.now) self.old }
+        ensures moments { self.new.moments
+            ≡ slice_set self.old.moments turn.number (Some turn.moment) }
+        ensures held { (n : ℕ) → IsHeld self.new n → IsHeld self.old n ⊎ (n ≡ turn.number) }
+        ensures kept { AreKept (O.rank order.now) self.new }
+    {
+        let has_room = self.queue.len() < self.queue.capacity();
+        if has_room && are_in_order(order, self.last(), Some(turn)) {
+            self.moments[turn.number] = Some(turn.moment);
+            self.queue.push_back_reserved(turn);
+            return;
+        }
+        self.moments[turn.number] = None;
+        self.drop_last();
+        self.insert_before(order, turn);
+    }
+
+    /// Sets the moment of a number that has none: at the front of the queue if it is in order there,
+    /// else among the rest.
+    fn insert_before<O: Ranking>(&mut self, order: &O, turn: Turn)
+        requires room { turn.number < length self.old.moments }
+        requires kept { AreKept (O.rank order.now) self.old }
+        ensures moments { self.new.moments
+            ≡ slice_set self.old.moments turn.number (Some turn.moment) }
+        ensures held { (n : ℕ) → IsHeld self.new n → IsHeld self.old n ⊎ (n ≡ turn.number) }
+        ensures kept { AreKept (O.rank order.now) self.new }
+    {
+        self.moments[turn.number] = Some(turn.moment);
+        let has_room = self.queue.len() < self.queue.capacity();
+        if has_room && are_in_order(order, Some(turn), self.front()) {
+            self.queue.push_front_reserved(turn);
+        } else {
+            self.rest.set(order, turn.number, Some(turn.moment));
+        }
+    }
+
+    /// Drops moments from the end of the queue, as long as they aren't current.
+    fn drop_last(&mut self)
+        ensures moments { self.new.moments ≡ self.old.moments }
+        ensures rest { self.new.rest ≡ self.old.rest }
+        ensures queue { (w : Turn) → StandsIn self.new.queue w → StandsIn self.old.queue w }
+        ensures kept { (rank : ℕ → ℕ → Ordering) → AreKept rank self.old → AreKept rank self.new }
+        ensures last { IfSome (last_or None self.new.queue) (IsCurrent self.new) }
+    {
+        while self.is_outdated(self.last()) {
+            self.queue.pop_back();
+        }
+    }
+
+    /// Drops moments from the front of the queue, as long as they aren't current.
+    fn drop_first(&mut self)
+        ensures moments { self.new.moments ≡ self.old.moments }
+        ensures rest { self.new.rest ≡ self.old.rest }
+        ensures queue { (w : Turn) → StandsIn self.new.queue w → StandsIn self.old.queue w }
+        ensures kept { (rank : ℕ → ℕ → Ordering) → AreKept rank self.old → AreKept rank self.new }
+        ensures front { IsFrontCurrent self.new self.new.queue }
+    {
+        while self.is_outdated(self.front()) {
+            self.queue.pop_front();
+        }
+    }
+
+    /// Returns whether there is a moment that its number doesn't have any more.
+    fn is_outdated(&self, turn: Option<Turn>) -> bool
+        ensures outdated { result ≡ true → IsOutdated self.now turn }
+        ensures current { result ≡ false → IfSome turn (IsCurrent self.now) }
+    {
+        match turn {
+            None => false,
+            Some(turn) => !is_same(self.at(turn.number), Some(turn.moment)),
+        }
+    }
+
+    /// Takes the winners of the rest out, as long as they aren't current.
+    fn drop_winners<O: Ranking>(&mut self, order: &O)
+        requires { AreKept (O.rank order.now) self.old }
+        ensures moments { self.new.moments ≡ self.old.moments }
+        ensures queue { self.new.queue ≡ self.old.queue }
+        ensures room { length self.new.rest.moments ≡ length self.old.rest.moments }
+        ensures held { (n : ℕ) → IsHeld self.new n → IsHeld self.old n }
+        ensures kept { AreKept (O.rank order.now) self.new }
+        ensures winner { IsWinnerCurrent self.new }
+    {
+        while let Some(number) = self.outdated_winner() {
+            self.rest.set(order, number, None);
+        }
+    }
+
+    /// Returns the number that wins the rest with a moment that it doesn't have any more.
+    fn outdated_winner(&self) -> Option<usize>
+        ensures some { IfSome result (λ n. (first_of self.now.rest ≡ Some n)
+            × (tournament.moment_at self.now.rest n ≢ moment_at self.now n)) }
+        ensures none { IfNone result (IsWinnerCurrent self.now) }
+    {
+        let number = self.rest.first()?;
+        if is_same(self.rest.at(number), self.at(number)) {
             return None;
         }
-        let winner = self.winner(1);
-        match self.at(winner) {
-            None => None,
-            Some(_) => Some(winner),
-        }
+        Some(number)
     }
 }
 
-/// Returns whether two moments are one, or both are missing.
-fn is_same(a: Option<u128>, b: Option<u128>) -> bool
-    ensures same { result ≡ true → a ≡ b }
-    ensures other { result ≡ false → a ≢ b }
+/// Returns whether two moments are in order, or one of them is missing.
+fn are_in_order<O: Ranking>(order: &O, a: Option<Turn>, b: Option<Turn>) -> bool
+    ensures { result ≡ are_in_order (O.rank order.now) a b }
 {
     match (a, b) {
-        (Some(moment), Some(other)) => moment == other,
-        (None, None) => true,
-        _ => false,
+        (Some(a), Some(b)) => is_in_order(order, a, b),
+        _ => true,
     }
+}
+
+/// Returns whether the first moment isn't later than the second and, if they are equal, the order
+/// doesn't put its number after the other.
+fn is_in_order<O: Ranking>(order: &O, a: Turn, b: Turn) -> bool
+    ensures { result ≡ is_in_order (O.rank order.now) a b }
+{
+    a.moment < b.moment
+        || (a.moment == b.moment && order.compare(a.number, b.number) != Ordering::Greater)
 }

@@ -8,8 +8,10 @@ mod grouped;
 mod journal;
 mod key;
 mod keyed;
+mod moment;
 mod numbers;
 mod ranking;
+mod tournament;
 mod values;
 
 pub use earliest::Earliest;

@@ -20,8 +20,9 @@ use Rattle.amr_time.specs.Time.{Moment}
 use Rattle.amr_tables.proofs.Placing.{value_set, value_apart}
 use Rattle.amr_tables.specs.Places.{value_at}
 use Rattle.amr_tables.specs.Numbered.{Numbered, map_of, has_place, number_of, next_number, key_with, key_at, rank_of, KeepsPlaces, GetsNumber, IsNumber, IsNumbering}
-use Rattle.amr_tables.specs.Earliest.{Earliest, moment_at, IsTournament, IsEarliest}
-use Rattle.amr_tables.proofs.Playing.{tournament_agrees}
+use Rattle.amr_tables.specs.declared.earliest.Turn.{Turn}
+use Rattle.amr_tables.specs.Earliest.{Earliest, moment_at, IsHeld, IsOrdered, IsEarliest}
+use Rattle.amr_tables.proofs.Firsts.{ordered_agrees}
 use Rattle.amr_tables.specs.Members.{has}
 use Rattle.amr_tables.proofs.Naming.{key_at_number}
 use Rattle.amr_engine.specs.declared.state.notification.GroupTimer.{GroupTimer}
@@ -96,7 +97,7 @@ module _ {K V : Type 0} {R : K → K → Ordering} (o : IsTotalOrder R) (exact :
   }
 
   -- the key that a number names has it, if a key has it
-  pub number_of_named : (t : Numbered K V) → IsNumbering R t → (n : ℕ) (key : K) → IsNumber R t n → key_at t n ≡ Some key → number_of R t key ≡ Some n
+  number_of_named : (t : Numbered K V) → IsNumbering R t → (n : ℕ) (key : K) → IsNumber R t n → key_at t n ≡ Some key → number_of R t key ≡ Some n
   number_of_named t numbering n key by named =
       let same : by.0 ≡ key = some_same by.0 key (sym (key_at_number o exact t numbering by.0 n by.1) ∙ named) in
       ap (number_of R t) (sym same) ∙ by.1
@@ -104,20 +105,24 @@ module _ {K V : Type 0} {R : K → K → Ordering} (o : IsTotalOrder R) (exact :
   -- ---- their moments
 
   module _ (moment_of : Option V → Option Moment) where
+    -- a number that has a moment is that of a key
+    pub named_moment : (t : Numbered K V) (e : Earliest) → IsScheduled R moment_of t e → (n : ℕ) (m : Moment) → moment_at e n ≡ Some m → IsNumber R t n
+    named_moment t e is n m at = is.named n (m, is.ordered.kept.stands (record { moment = m; number = n }) at)
+
     -- the same moments, in a table with the same values
-    pub scheduled_same : (t u : Numbered K V) (e f : Earliest) → u.numbers ≡ t.numbers → map_of R u ≡ map_of R t → ((n : ℕ) → moment_at f n ≡ moment_at e n) → length e.moments ≤ length f.moments → IsTournament (rank_of R t) f
+    pub scheduled_same : (t u : Numbered K V) (e f : Earliest) → u.numbers ≡ t.numbers → map_of R u ≡ map_of R t → ((n : ℕ) → moment_at f n ≡ moment_at e n) → length e.moments ≤ length f.moments → ((n : ℕ) → IsHeld f n → IsHeld e n) → IsOrdered (rank_of R t) f
         → IsScheduled R moment_of t e → IsScheduled R moment_of u f
-    scheduled_same t u e f numbers shows moments longer tournament is = record {
+    scheduled_same t u e f numbers shows moments longer held ordered is = record {
       timed = λ key n at. moments n ∙ is.timed key n (ap (find R key) (sym numbers) ∙ at) ∙ ap (λ (m : Map R V). moment_of (get m key)) (sym shows);
-      named = λ n moment at. let key = is.named n moment (sym (moments n) ∙ at) in (key.0, ap (find R key.0) numbers ∙ key.1);
+      named = λ n h. let key = is.named n (held n h) in (key.0, ap (find R key.0) numbers ∙ key.1);
       room = λ key n at. let less = is.room key n (ap (find R key) (sym numbers) ∙ at) in omega (arith, less, longer);
-      tournament = subst (λ ns. IsTournament (λ a b. option_cmp R (key_with ns a) (key_with ns b)) f) (sym numbers) tournament;
+      ordered = subst (λ ns. IsOrdered (λ a b. option_cmp R (key_with ns a) (key_with ns b)) f) (sym numbers) ordered;
     }
 
     -- the value of a key is another, and its moment, too
     pub scheduled_set : (t u : Numbered K V) (e f : Earliest) (k : K) (n : ℕ) (value : Option V) → number_of R t k ≡ Some n → u.numbers ≡ t.numbers → map_of R u ≡ set (map_of R t) k value
-        → f.moments ≡ slice_set e.moments n (moment_of value) → IsTournament (rank_of R u) f → AreNumbered R t → IsScheduled R moment_of t e → IsScheduled R moment_of u f
-    scheduled_set t u e f k n value at numbers shows moments tournament numbered is = record {
+        → f.moments ≡ slice_set e.moments n (moment_of value) → ((m : ℕ) → IsHeld f m → IsHeld e m ⊎ (m ≡ n)) → IsOrdered (rank_of R u) f → AreNumbered R t → IsScheduled R moment_of t e → IsScheduled R moment_of u f
+    scheduled_set t u e f k n value at numbers shows moments held ordered numbered is = record {
       timed = λ key m there.
           let old : number_of R t key ≡ Some m = ap (find R key) (sym numbers) ∙ there in
           let value_is : get (map_of R u) key ≡ cond (eq_by_cmp R key k) value (get (map_of R t) key) = ap (λ (m : Map R V). get m key) shows ∙ get-set o (map_of R t) k value key in
@@ -128,20 +133,15 @@ module _ {K V : Type 0} {R : K → K → Ordering} (o : IsTotalOrder R) (exact :
             | false ↦ λ other. value_apart e.moments n m (moment_of value) (λ number. not_both (eq_by_cmp R key k) _ other (
                 ap (λ x. eq_by_cmp R x k) (numbered.apart key k n (old ∙ ap (λ m. Some m) number) at) ∙ ap is_eq (tied_itself o k))) ∙ is.timed key m old
           ] refl ∙ ap moment_of (sym value_is);
-      named = λ m moment there.
-          let now : value_at (slice_set e.moments n (moment_of value)) m ≡ Some moment = ap (λ l. value_at l m) (sym moments) ∙ there in
-          elim (m == n) as (λ b. (m == n) ≡ b → (key : K) × (number_of R u key ≡ Some m)) [
-            | true ↦ λ same. let number : m ≡ n = grind (arith, nat_tests) in (k, ap (find R k) numbers ∙ at ∙ ap (λ m. Some m) (sym number))
-            | false ↦ λ other.
-                let apart : m ≢ n = λ number. absurd (grind (arith, nat_tests)) in
-                let key = is.named m moment (sym (value_apart e.moments n m (moment_of value) apart) ∙ now) in
-                (key.0, ap (find R key.0) numbers ∙ key.1)
-          ] refl;
+      named = λ m h. elim (held m h) as (λ _. (key : K) × (number_of R u key ≡ Some m)) [
+        | inl before ↦ let key = is.named m before in (key.0, ap (find R key.0) numbers ∙ key.1)
+        | inr number ↦ (k, ap (find R k) numbers ∙ at ∙ ap (λ m. Some m) (sym number))
+      ];
       room = λ key m there.
           let less = is.room key m (ap (find R key) (sym numbers) ∙ there) in
           let same = ap length moments ∙ length-set e.moments n (moment_of value) in
           omega (arith, less, same);
-      tournament = tournament;
+      ordered = ordered;
     }
 
     -- a key more, without a value
@@ -158,7 +158,7 @@ module _ {K V : Type 0} {R : K → K → Ordering} (o : IsTotalOrder R) (exact :
         let no_value : get (map_of R t) k ≡ None = no_more (get (map_of R t) k) (λ h. not_both _ _ (ap is_some new) (numbered.placed k h)) in
         let no_moment : moment_at e n ≡ None = no_more (moment_at e n) (λ h.
         let moment = the_value (moment_at e n) h in
-        let key = is.named n moment.0 moment.1 in
+        let key = named_moment t e is n moment.0 moment.1 in
         let less = before.within key.0 n key.1 in
         absurd (omega (arith, less))) in
         record {
@@ -168,29 +168,29 @@ module _ {K V : Type 0} {R : K → K → Ordering} (o : IsTotalOrder R) (exact :
                 ∙ ap (λ (m : Map R V). moment_of (get m key)) (sym shows)
             | false ↦ λ _ old. is.timed key m old ∙ ap (λ (m : Map R V). moment_of (get m key)) (sym shows)
           ] refl (sym (gets key) ∙ there);
-          named = λ m moment at. let key = is.named m moment at in (key.0, keeps key.0 m key.1);
+          named = λ m h. let key = is.named m h in (key.0, keeps key.0 m key.1);
           room = λ key m there. elim (eq_by_cmp R key k) as (λ b. (if b then Some n else number_of R t key) ≡ Some m → m < length e.moments) [
             | true ↦ λ number. let same = some_same n m number in omega (arith, room, same)
             | false ↦ λ old. is.room key m old
           ] (sym (gets key) ∙ there);
-          tournament = tournament_agrees (rank_of R t) (rank_of R u) e (λ a b x y at_a at_b.
-              let key_a = is.named a x at_a in
-              let key_b = is.named b y at_b in
+          ordered = ordered_agrees (rank_of R t) (rank_of R u) e (λ a b held_a held_b.
+              let key_a = is.named a held_a in
+              let key_b = is.named b held_b in
               let same_a : key_at t a ≡ key_at u a = key_at_number o exact t before key_a.0 a key_a.1 ∙ sym (key_at_number o exact u after key_a.0 a (keeps key_a.0 a key_a.1)) in
               let same_b : key_at t b ≡ key_at u b = key_at_number o exact t before key_b.0 b key_b.1 ∙ sym (key_at_number o exact u after key_b.0 b (keeps key_b.0 b key_b.1)) in
-              (λ i. option_cmp R (same_a i) (same_b i))) is.tournament;
+              (λ i. option_cmp R (same_a i) (same_b i))) is.ordered;
         }
       where
         no_more : {A : Type 0} (x : Option A) → (IsTrue (is_some x) → ⊥) → x ≡ None
         no_more None never = refl
         no_more (Some a) never = absurd (never refl)
 
-    pub none_scheduled : (t : Numbered K V) (e : Earliest) → t.numbers ≡ [] → e.moments ≡ [] → ((r : ℕ → ℕ → Ordering) → IsTournament r e) → IsScheduled R moment_of t e
-    none_scheduled t e none moments tournament = record {
+    pub none_scheduled : (t : Numbered K V) (e : Earliest) → t.numbers ≡ [] → ((n : ℕ) → IsHeld e n → ⊥) → ((r : ℕ → ℕ → Ordering) → IsOrdered r e) → IsScheduled R moment_of t e
+    none_scheduled t e none held ordered = record {
       timed = λ key n at. not_none n _ (sym at ∙ ap (find R key) none);
-      named = λ n moment at. not_none moment _ (sym at ∙ ap (λ l. value_at l n) moments);
+      named = λ n h. absurd (held n h);
       room = λ key n at. not_none n _ (sym at ∙ ap (find R key) none);
-      tournament = tournament (rank_of R t);
+      ordered = ordered (rank_of R t);
     }
 
     -- ---- the first of them
@@ -216,10 +216,14 @@ module _ {K V : Type 0} {R : K → K → Ordering} (o : IsTotalOrder R) (exact :
         let number = numbered_moment t e none numbered is key x at in
         not_none x _ (sym number.1.1 ∙ never number.0)
 
+    -- the key that the number of the earliest moment names has this number
+    pub number_of_first : (t : Numbered K V) (e : Earliest) (n : ℕ) (key : K) → IsNumbering R t → IsScheduled R moment_of t e → IsEarliest (rank_of R t) e n → key_at t n ≡ Some key → number_of R t key ≡ Some n
+    number_of_first t e n key numbering is earliest named = number_of_named t numbering n key (named_moment t e is n earliest.0 earliest.1) named
+
     pub first_moment : (t : Numbered K V) (e : Earliest) (n : ℕ) (moment : Moment) (key : K) → moment_of None ≡ None → IsNumbering R t → AreNumbered R t → IsScheduled R moment_of t e
         → moment_at e n ≡ Some moment → IsEarliest (rank_of R t) e n → key_at t n ≡ Some key → IsFirstMoment (map_of R t) key moment
     first_moment t e n moment key none numbering numbered is at earliest named =
-        let number : number_of R t key ≡ Some n = number_of_named t numbering n key (is.named n moment at) named in
+        let number : number_of R t key ≡ Some n = number_of_first t e n key numbering is earliest named in
         let first : earliest.0 ≡ moment = some_same earliest.0 moment (sym earliest.1 ∙ at) in (
           sym (is.timed key n number) ∙ at,
           λ other x later.
@@ -253,8 +257,8 @@ module _ {K V : Type 0} (R : K → K → Ordering) (t u : Numbered K V) where
   unfolding has_place
   placed_by numbers k n at = ap (λ ns. is_some (find R k ns)) numbers ∙ ap is_some at
 
-  pub ranked : u.numbers ≡ t.numbers → (e : Earliest) → IsTournament (rank_of R t) e → IsTournament (rank_of R u) e
-  ranked numbers e tournament = subst (λ ns. IsTournament (λ a b. option_cmp R (key_with ns a) (key_with ns b)) e) (sym numbers) tournament
+  pub ranked : u.numbers ≡ t.numbers → (e : Earliest) → IsOrdered (rank_of R t) e → IsOrdered (rank_of R u) e
+  ranked numbers e ordered = subst (λ ns. IsOrdered (λ a b. option_cmp R (key_with ns a) (key_with ns b)) e) (sym numbers) ordered
 
   -- a key that got a number has it
   pub got : IsTotalOrder R → (k : K) (n : ℕ) → GetsNumber R t u k n → number_of R u k ≡ Some n
@@ -264,44 +268,45 @@ module _ {K V : Type 0} (R : K → K → Ordering) (t u : Numbered K V) where
 
 module _ (a : Numbered LabelSet Alert) (c : Numbered RouteLabels GroupTimer) (removals emptied flushes : Earliest) (is : IsTimed a c removals emptied flushes) where
   pub alerts_same : (b : Numbered LabelSet Alert) → b.numbers ≡ a.numbers → map_of label_set_cmp b ≡ map_of label_set_cmp a → (r : Earliest) → ((n : ℕ) → moment_at r n ≡ moment_at removals n) → length removals.moments ≤ length r.moments
-      → IsTournament (rank_of label_set_cmp a) r → IsTimed b c r emptied flushes
-  alerts_same b numbers shows r same longer tournament = record {
+      → ((n : ℕ) → IsHeld r n → IsHeld removals n) → IsOrdered (rank_of label_set_cmp a) r → IsTimed b c r emptied flushes
+  alerts_same b numbers shows r same longer held ordered = record {
     alerts_numbered = numbered_same label_set_cmp_total label_set_cmp-IsAntisymmetric a b numbers shows is.alerts_numbered;
     timers_numbered = is.timers_numbered;
-    alerts_removed = scheduled_same label_set_cmp_total label_set_cmp-IsAntisymmetric alert_moment a b removals r numbers shows same longer tournament is.alerts_removed;
+    alerts_removed = scheduled_same label_set_cmp_total label_set_cmp-IsAntisymmetric alert_moment a b removals r numbers shows same longer held ordered is.alerts_removed;
     groups_removed = is.groups_removed;
     groups_flushed = is.groups_flushed;
   }
 
   pub timers_same : (d : Numbered RouteLabels GroupTimer) → d.numbers ≡ c.numbers → map_of route_labels_cmp d ≡ map_of route_labels_cmp c
-      → (e : Earliest) → ((n : ℕ) → moment_at e n ≡ moment_at emptied n) → length emptied.moments ≤ length e.moments → IsTournament (rank_of route_labels_cmp c) e
-      → (f : Earliest) → ((n : ℕ) → moment_at f n ≡ moment_at flushes n) → length flushes.moments ≤ length f.moments → IsTournament (rank_of route_labels_cmp c) f → IsTimed a d removals e f
-  timers_same d numbers shows e same_e longer_e tournament_e f same_f longer_f tournament_f = record {
+      → (e : Earliest) → ((n : ℕ) → moment_at e n ≡ moment_at emptied n) → length emptied.moments ≤ length e.moments → ((n : ℕ) → IsHeld e n → IsHeld emptied n) → IsOrdered (rank_of route_labels_cmp c) e
+      → (f : Earliest) → ((n : ℕ) → moment_at f n ≡ moment_at flushes n) → length flushes.moments ≤ length f.moments → ((n : ℕ) → IsHeld f n → IsHeld flushes n) → IsOrdered (rank_of route_labels_cmp c) f → IsTimed a d removals e f
+  timers_same d numbers shows e same_e longer_e held_e ordered_e f same_f longer_f held_f ordered_f = record {
     alerts_numbered = is.alerts_numbered;
     timers_numbered = numbered_same route_labels_cmp_total route_labels_cmp-IsAntisymmetric c d numbers shows is.timers_numbered;
     alerts_removed = is.alerts_removed;
-    groups_removed = scheduled_same route_labels_cmp_total route_labels_cmp-IsAntisymmetric removal_moment c d emptied e numbers shows same_e longer_e tournament_e is.groups_removed;
-    groups_flushed = scheduled_same route_labels_cmp_total route_labels_cmp-IsAntisymmetric flush_moment c d flushes f numbers shows same_f longer_f tournament_f is.groups_flushed;
+    groups_removed = scheduled_same route_labels_cmp_total route_labels_cmp-IsAntisymmetric removal_moment c d emptied e numbers shows same_e longer_e held_e ordered_e is.groups_removed;
+    groups_flushed = scheduled_same route_labels_cmp_total route_labels_cmp-IsAntisymmetric flush_moment c d flushes f numbers shows same_f longer_f held_f ordered_f is.groups_flushed;
   }
 
   pub alert_set : (b : Numbered LabelSet Alert) (r : Earliest) (k : LabelSet) (n : ℕ) (value : Option Alert) → number_of label_set_cmp a k ≡ Some n → b.numbers ≡ a.numbers → map_of label_set_cmp b ≡ set (map_of label_set_cmp a) k value
-      → r.moments ≡ slice_set removals.moments n (alert_moment value) → IsTournament (rank_of label_set_cmp b) r → IsTimed b c r emptied flushes
-  alert_set b r k n value at numbers shows moments tournament = record {
+      → r.moments ≡ slice_set removals.moments n (alert_moment value) → ((m : ℕ) → IsHeld r m → IsHeld removals m ⊎ (m ≡ n)) → IsOrdered (rank_of label_set_cmp b) r → IsTimed b c r emptied flushes
+  alert_set b r k n value at numbers shows moments held ordered = record {
     alerts_numbered = numbered_set label_set_cmp_total label_set_cmp-IsAntisymmetric a b k n value at numbers shows is.alerts_numbered;
     timers_numbered = is.timers_numbered;
-    alerts_removed = scheduled_set label_set_cmp_total label_set_cmp-IsAntisymmetric alert_moment a b removals r k n value at numbers shows moments tournament is.alerts_numbered is.alerts_removed;
+    alerts_removed = scheduled_set label_set_cmp_total label_set_cmp-IsAntisymmetric alert_moment a b removals r k n value at numbers shows moments held ordered is.alerts_numbered is.alerts_removed;
     groups_removed = is.groups_removed;
     groups_flushed = is.groups_flushed;
   }
 
   pub timer_set : (d : Numbered RouteLabels GroupTimer) (e f : Earliest) (k : RouteLabels) (n : ℕ) (value : Option GroupTimer) → number_of route_labels_cmp c k ≡ Some n → d.numbers ≡ c.numbers → map_of route_labels_cmp d ≡ set (map_of route_labels_cmp c) k value
-      → e.moments ≡ slice_set emptied.moments n (removal_moment value) → IsTournament (rank_of route_labels_cmp d) e → f.moments ≡ slice_set flushes.moments n (flush_moment value) → IsTournament (rank_of route_labels_cmp d) f → IsTimed a d removals e f
-  timer_set d e f k n value at numbers shows moments_e tournament_e moments_f tournament_f = record {
+      → e.moments ≡ slice_set emptied.moments n (removal_moment value) → ((m : ℕ) → IsHeld e m → IsHeld emptied m ⊎ (m ≡ n)) → IsOrdered (rank_of route_labels_cmp d) e
+      → f.moments ≡ slice_set flushes.moments n (flush_moment value) → ((m : ℕ) → IsHeld f m → IsHeld flushes m ⊎ (m ≡ n)) → IsOrdered (rank_of route_labels_cmp d) f → IsTimed a d removals e f
+  timer_set d e f k n value at numbers shows moments_e held_e ordered_e moments_f held_f ordered_f = record {
     alerts_numbered = is.alerts_numbered;
     timers_numbered = numbered_set route_labels_cmp_total route_labels_cmp-IsAntisymmetric c d k n value at numbers shows is.timers_numbered;
     alerts_removed = is.alerts_removed;
-    groups_removed = scheduled_set route_labels_cmp_total route_labels_cmp-IsAntisymmetric removal_moment c d emptied e k n value at numbers shows moments_e tournament_e is.timers_numbered is.groups_removed;
-    groups_flushed = scheduled_set route_labels_cmp_total route_labels_cmp-IsAntisymmetric flush_moment c d flushes f k n value at numbers shows moments_f tournament_f is.timers_numbered is.groups_flushed;
+    groups_removed = scheduled_set route_labels_cmp_total route_labels_cmp-IsAntisymmetric removal_moment c d emptied e k n value at numbers shows moments_e held_e ordered_e is.timers_numbered is.groups_removed;
+    groups_flushed = scheduled_set route_labels_cmp_total route_labels_cmp-IsAntisymmetric flush_moment c d flushes f k n value at numbers shows moments_f held_f ordered_f is.timers_numbered is.groups_flushed;
   }
 
   pub alert_placed : (b : Numbered LabelSet Alert) (k : LabelSet) → IsNumbering label_set_cmp a → IsNumbering label_set_cmp b → number_of label_set_cmp a k ≡ None → GetsNumber label_set_cmp a b k (next_number a) → map_of label_set_cmp b ≡ map_of label_set_cmp a

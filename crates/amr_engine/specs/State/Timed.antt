@@ -8,7 +8,7 @@ use Rattle.amr_labels.specs.Map.{get}
 use Rattle.amr_time.specs.Time.{Moment}
 use Rattle.amr_rules.specs.declared.alert.Alert.{Alert}
 use Rattle.amr_tables.specs.Numbered.{Numbered, map_of, has_place, number_of, rank_of, IsNumber}
-use Rattle.amr_tables.specs.Earliest.{Earliest, moment_at, IsTournament}
+use Rattle.amr_tables.specs.Earliest.{Earliest, moment_at, IsHeld, IsOrdered}
 use Rattle.amr_tables.specs.Members.{has}
 use Rattle.amr_engine.specs.declared.state.notification.GroupTimer.{GroupTimer}
 use Rattle.amr_engine.specs.declared.state.route_labels.RouteLabels.{RouteLabels}
@@ -50,13 +50,13 @@ module _ {K V : Type 0} (R : K → K → Ordering) where
     pub placed : (key : K) → IsTrue (is_some (get (map_of R t) key)) → IsTrue (has_place R t key)
     pub apart : (a b : K) (n : ℕ) → number_of R t a ≡ Some n → number_of R t b ≡ Some n → a ≡ b
 
-  -- The moment of each key's number is that of the key's value. A number that no key has has no
-  -- moment.
+  -- The moment of each key's number is that of the key's value. No moment is held of a number that
+  -- no key has.
   pub record IsScheduled (moment_of : Option V → Option Moment) (t : Numbered K V) (moments : Earliest) : Type 0 where
     pub timed : (key : K) (n : ℕ) → number_of R t key ≡ Some n → moment_at moments n ≡ moment_of (get (map_of R t) key)
-    pub named : (n : ℕ) (moment : Moment) → moment_at moments n ≡ Some moment → IsNumber R t n
+    pub named : (n : ℕ) → IsHeld moments n → IsNumber R t n
     pub room : (key : K) (n : ℕ) → number_of R t key ≡ Some n → n < length moments.moments
-    pub tournament : IsTournament (rank_of R t) moments
+    pub ordered : IsOrdered (rank_of R t) moments
 
 -- The moments are those of the alerts and timers, and of several at one moment the names decide.
 pub record IsTimed (alerts : Numbered LabelSet Alert) (timers : Numbered RouteLabels GroupTimer) (alert_removals group_removals flushes : Earliest) : Type 0 where

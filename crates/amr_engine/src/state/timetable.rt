@@ -1,9 +1,9 @@
 //! The stored alerts and the group timers, with the moments at which each alert is removed, and each
 //! group flushed or removed. `Store` changes alerts and timers here, and the moments follow. Nothing
 //! is fired here.
-ghost use Rattle.std.specs.Prelude.{◌≡◌, ◌≢◌, ◌<◌, ◌≤◌, ℕ, true, IsTrue, length, is_some, option_map, None, Some, OnOk, IfOk};
+ghost use Rattle.std.specs.Prelude.{◌≡◌, ◌≢◌, ◌<◌, ◌≤◌, ℕ, true, false, IsTrue, length, is_some, option_map, None, Some, OnOk, IfOk};
 ghost use Rattle.std.specs.Option.{option_copied};
-ghost use Rattle.amr_tables.specs.Earliest.{moment_at, IsTournament};
+ghost use Rattle.amr_tables.specs.Earliest.{moment_at, IsHeld, IsOrdered};
 ghost use Rattle.amr_labels.specs.Labels.{label_set_cmp};
 ghost use Rattle.amr_labels.specs.Map as map;
 ghost use Rattle.amr_tables.specs.Numbered.{map_of, number_of, key_at, EntersAt, KeepsPlaces, SamePlaces, SameEntered, NoneEntered, IsMarkOf, IsNumber, IsNumbering, IsSetAt, IsValueOf, next_number, rank_of};
@@ -221,7 +221,7 @@ impl Timetable {
             ≡ map.get (map_of route_labels_cmp self.now.timers) group.now }
         ensures placed { IsTrue (is_some result.1) → IsTrue (is_some result.0) }
     {
-        match self.flushes.first() {
+        match self.flushes.first(&self.timers) {
             Some(number) if is_key_at(&self.timers, number, group) => {
                 (Some(number), self.timers.at(number))
             }
@@ -243,6 +243,8 @@ impl Timetable {
         let key = group.clone()?;
         make_room(&mut self.flushes, &self.timers)?;
         make_room(&mut self.group_removals, &self.timers)?;
+        // Groups are flushed in turn. Without room in the queue, their moments take longer.
+        drop(self.flushes.reserve_queue());
         self.timers.make_place(key)?;
         match self.timers.number_of(group) {
             Some(number) => Ok(number),
@@ -254,6 +256,7 @@ impl Timetable {
 /// Returns whether a group is the key with a number.
 fn is_key_at(timers: &Keyed<RouteLabels, GroupTimer>, number: usize, group: &RouteLabels) -> bool
     ensures key { result ≡ true → key_at timers.now number ≡ Some group.now }
+    ensures other { result ≡ false → key_at timers.now number ≢ Some group.now }
     ensures numbering { IsNumbering route_labels_cmp timers.now }
 {
     match timers.key_at(number) {
@@ -267,11 +270,12 @@ fn make_room<K: Key + Drop, V: Drop>(
     moments: &mut Earliest,
     table: &Keyed<K, V>,
 ) -> Result<(), AllocError>
-    requires { IsTournament (rank_of K.cmp table.now) moments.old }
+    requires { IsOrdered (rank_of K.cmp table.now) moments.old }
     ensures room { OnOk result (next_number table.now < length moments.new.moments) }
     ensures more { length moments.old.moments ≤ length moments.new.moments }
     ensures same { (n : ℕ) → moment_at moments.new n ≡ moment_at moments.old n }
-    ensures kept { IsTournament (rank_of K.cmp table.now) moments.new }
+    ensures held { (n : ℕ) → IsHeld moments.new n → IsHeld moments.old n }
+    ensures kept { IsOrdered (rank_of K.cmp table.now) moments.new }
     ensures numbering { IsNumbering K.cmp table.now }
 {
     match table.next_number().checked_add(1) {
@@ -335,9 +339,10 @@ fn first_alert<'a>(alerts: &'a AlertTable, removals: &Earliest) -> Option<Pendin
     ensures { (timers : map.Map route_labels_cmp GroupTimer) → IsFirstOfKind AlertRemoval
         (dues_of (map_of label_set_cmp alerts.now) timers) (option_map due_of result) }
 {
-    let number = removals.first()?;
+    let table = alerts.by_number();
+    let number = removals.first(table)?;
     let moment = removals.at(number)?;
-    let labels = alerts.by_number().key_at(number)?;
+    let labels = table.key_at(number)?;
     Some(Pending {
         moment,
         timer: TimerRef::AlertRemoval(labels),
@@ -356,7 +361,7 @@ fn first_group<'a>(
     ensures { (alerts : map.Map label_set_cmp Alert) → IsFirstOfKind kind
         (dues_of alerts (map_of route_labels_cmp timers.now)) (option_map due_of result) }
 {
-    let number = moments.first()?;
+    let number = moments.first(timers)?;
     let moment = moments.at(number)?;
     let group = timers.key_at(number)?;
     let timer = timer_of_kind(group, kind);

@@ -3,6 +3,7 @@ use Rattle.std.specs.Prelude.{option_map}
 use Rattle.std.specs.Option.{option_copied}
 use Rattle.amr_labels.specs.Labels.{LabelSet, label_set_cmp, label_set_cmp_total, label_set_cmp-IsAntisymmetric}
 use Rattle.amr_rules.specs.declared.alert.Alert.{Alert}
+use Rattle.amr_tables.specs.Earliest.{IsOrdered, IsEarliest}
 use Rattle.amr_tables.specs.Numbered.{Numbered, map_of, key_at, rank_of, IsNumbering}
 use Rattle.amr_tables.proofs.Naming.{key_at_number}
 use Rattle.amr_tables.proofs.Keying.{rank_of-total}
@@ -10,35 +11,38 @@ use Rattle.amr_engine.specs.declared.state.due.Kind.TheVariants.{AlertRemoval}
 use Rattle.amr_engine.specs.declared.state.timetable.Pending.{Pending}
 use Rattle.amr_engine.specs.State.Dues.{dues_of}
 use Rattle.amr_engine.specs.State.Timed.{alert_moment, due_of, IsFirstOfKind}
-use Rattle.amr_engine.proofs.StateLemmas.Scheduling.{first_moment, no_moment, first_alert, no_alert, not_none}
+use Rattle.amr_engine.proofs.StateLemmas.Scheduling.{first_moment, no_moment, first_alert, no_alert, named_moment, not_none}
 use Rattle.amr_engine.proofs.state.timetable.first_alert.Goals as goal
+
+pub first-requires : goal.first-requires
+first-requires c = subst (λ (v : Numbered LabelSet Alert). IsOrdered (rank_of label_set_cmp v) c.args.removals.now) (sym c.by_number-table.ensures) c.requires.scheduled.ordered
 
 pub returns-in_err-number : goal.returns-in_err-number
 returns-in_err-number c = λ timers.
+    let never = c.in_err-number.ensures.none (rank_of-total label_set_cmp_total c.by_number-table.result.now) in
     subst (λ (r : Option Pending). IsFirstOfKind AlertRemoval (dues_of (map_of label_set_cmp c.args.alerts.now) timers) (option_map due_of r)) (sym c.from_residual.ensures)
-    (no_alert (map_of label_set_cmp c.args.alerts.now) timers (no_moment label_set_cmp_total label_set_cmp-IsAntisymmetric alert_moment c.args.alerts.now c.args.removals.now refl c.requires.numbered c.requires.scheduled (c.in_err-number.ensures.none (rank_of label_set_cmp c.args.alerts.now) (rank_of-total label_set_cmp_total c.args.alerts.now) c.requires.scheduled.tournament)))
+    (no_alert (map_of label_set_cmp c.args.alerts.now) timers (no_moment label_set_cmp_total label_set_cmp-IsAntisymmetric alert_moment c.args.alerts.now c.args.removals.now refl c.requires.numbered c.requires.scheduled never))
 
 pub returns-in_err-labels : goal.returns-in_err-labels
 returns-in_err-labels c = λ timers.
     let a = c.args.alerts.now in
     let n = c.in_ok-number.number in
-    let first = c.in_ok-number.ensures.some (rank_of label_set_cmp a) (rank_of-total label_set_cmp_total a) c.requires.scheduled.tournament in
-    let by = c.requires.scheduled.named n first.0 first.1 in
-    let numbering : IsNumbering label_set_cmp a = subst (IsNumbering label_set_cmp) c.by_number.ensures c.key_at.ensures.numbering in
-    not_none by.0 _ (sym (key_at_number label_set_cmp_total label_set_cmp-IsAntisymmetric a numbering by.0 n by.1) ∙ ap (λ (v : Numbered LabelSet Alert). key_at v n) (sym c.by_number.ensures) ∙ sym c.key_at.ensures.key ∙ ap option_copied c.in_err-labels.was)
+    let first = c.in_ok-number.ensures.some (rank_of-total label_set_cmp_total c.by_number-table.result.now) in
+    let by = named_moment label_set_cmp_total label_set_cmp-IsAntisymmetric alert_moment a c.args.removals.now c.requires.scheduled n first.0 first.1 in
+    let numbering : IsNumbering label_set_cmp a = subst (IsNumbering label_set_cmp) c.by_number-table.ensures c.key_at.ensures.numbering in
+    not_none by.0 _ (sym (key_at_number label_set_cmp_total label_set_cmp-IsAntisymmetric a numbering by.0 n by.1) ∙ ap (λ (v : Numbered LabelSet Alert). key_at v n) (sym c.by_number-table.ensures) ∙ sym c.key_at.ensures.key ∙ ap option_copied c.in_err-labels.was)
 
 pub returns : goal.returns
 returns c = λ timers.
     let a = c.args.alerts.now in
     let n = c.in_ok-number.number in
-    let first = c.in_ok-number.ensures.some (rank_of label_set_cmp a) (rank_of-total label_set_cmp_total a) c.requires.scheduled.tournament in
-    let numbering : IsNumbering label_set_cmp a = subst (IsNumbering label_set_cmp) c.by_number.ensures c.key_at.ensures.numbering in
-    let named : key_at a n ≡ Some c.in_ok-labels.labels.now = ap (λ (v : Numbered LabelSet Alert). key_at v n) (sym c.by_number.ensures) ∙ sym c.key_at.ensures.key ∙ ap option_copied c.in_ok-labels.was in
+    let first = subst (λ (v : Numbered LabelSet Alert). IsEarliest (rank_of label_set_cmp v) c.args.removals.now n) c.by_number-table.ensures (c.in_ok-number.ensures.some (rank_of-total label_set_cmp_total c.by_number-table.result.now)) in
+    let numbering : IsNumbering label_set_cmp a = subst (IsNumbering label_set_cmp) c.by_number-table.ensures c.key_at.ensures.numbering in
+    let named : key_at a n ≡ Some c.in_ok-labels.labels.now = ap (λ (v : Numbered LabelSet Alert). key_at v n) (sym c.by_number-table.ensures) ∙ sym c.key_at.ensures.key ∙ ap option_copied c.in_ok-labels.was in
     first_alert (map_of label_set_cmp a) timers c.in_ok-labels.labels.now c.in_ok-moment.moment
     (first_moment label_set_cmp_total label_set_cmp-IsAntisymmetric alert_moment a c.args.removals.now n c.in_ok-moment.moment c.in_ok-labels.labels.now refl numbering c.requires.numbered c.requires.scheduled (sym c.at.ensures ∙ c.in_ok-moment.was) first named)
 
 pub returns-in_err-moment : goal.returns-in_err-moment
 returns-in_err-moment c = λ timers.
-    let a = c.args.alerts.now in
-    let first = c.in_ok-number.ensures.some (rank_of label_set_cmp a) (rank_of-total label_set_cmp_total a) c.requires.scheduled.tournament in
+    let first = c.in_ok-number.ensures.some (rank_of-total label_set_cmp_total c.by_number-table.result.now) in
     not_none first.0 _ (sym first.1 ∙ sym c.at.ensures ∙ c.in_err-moment.was)

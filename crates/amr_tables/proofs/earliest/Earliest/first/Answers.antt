@@ -1,14 +1,25 @@
-use Rattle.std.proofs.Common.{◌≡◌, ◌∙◌, Some, sym, ap, subst}
-use Rattle.amr_tables.specs.Earliest.{moment_at, winner_at, IsEarliest}
-use Rattle.amr_tables.proofs.Playing.{earliest, none_earlier}
+use Rattle.std.proofs.Common.{◌∙◌, sym}
+use Rattle.amr_tables.proofs.Firsts.{none_at_all, front_alone, winner_alone, front_first, winner_before}
 use Rattle.amr_tables.proofs.earliest.Earliest.first.Goals as goal
 
-pub returns-in-None-clause-none : goal.returns-in-None-clause-none
-returns-in-None-clause-none c = λ rank order played.
-    none_earlier rank c.args.self.now order played (ap (moment_at c.args.self.now) (sym c.winner-winner.ensures) ∙ sym c.at.ensures ∙ c.in-None.is)
+pub returns-in-None-None-clause-none : goal.returns-in-None-None-clause-none
+returns-in-None-None-clause-none g c = λ order.
+    none_at_all (g.O.Ranking.rank c.args.order.now) order c.args.self.now c.requires (sym c.front.ensures ∙ c.in-None-None.is-0) (sym c.in-None-None.ensures.number)
 
-pub returns-in-Some-clause-some : goal.returns-in-Some-clause-some
-returns-in-Some-clause-some c = λ rank order played.
-    let is : moment_at c.args.self.now (winner_at c.args.self.now 1) ≡ Some c.in-Some.field-0 = ap (moment_at c.args.self.now) (sym c.winner-winner.ensures) ∙ sym c.at.ensures ∙ c.in-Some.is in
-    subst (λ n. IsEarliest rank c.args.self.now n) (sym c.winner-winner.ensures)
-    (earliest rank c.args.self.now order played c.in-Some.field-0 is)
+pub returns-in-None-Some-clause-some : goal.returns-in-None-Some-clause-some
+returns-in-None-Some-clause-some g c = λ order.
+    winner_alone (g.O.Ranking.rank c.args.order.now) order c.args.self.now c.requires c.in-None-Some.winner (sym c.front.ensures ∙ c.in-None-Some.is-0) (sym c.in-None-Some.ensures.number) c.in-None-Some.ensures.moment
+
+pub returns-in-Some-None-clause-some : goal.returns-in-Some-None-clause-some
+returns-in-Some-None-clause-some g c = λ order.
+    front_alone (g.O.Ranking.rank c.args.order.now) order c.args.self.now c.requires c.in-Some-None.front (sym c.in-Some-None.ensures) (sym c.in-Some-None.ensures'.number)
+
+pub returns-then-is_in_order-clause-some : goal.returns-then-is_in_order-clause-some
+returns-then-is_in_order-clause-some g c = λ order.
+    front_first (g.O.Ranking.rank c.args.order.now) order c.args.self.now c.requires c.in-Some-Some.front c.in-Some-Some.winner (sym c.in-Some-Some.ensures) (sym c.in-Some-Some.ensures'.number) c.in-Some-Some.ensures'.moment
+    (sym c.is_in_order.ensures ∙ c.if-is_in_order.true)
+
+pub returns-else-is_in_order-clause-some : goal.returns-else-is_in_order-clause-some
+returns-else-is_in_order-clause-some g c = λ order.
+    winner_before (g.O.Ranking.rank c.args.order.now) order c.args.self.now c.requires c.in-Some-Some.front c.in-Some-Some.winner (sym c.in-Some-Some.ensures) (sym c.in-Some-Some.ensures'.number) c.in-Some-Some.ensures'.moment
+    (sym c.is_in_order.ensures ∙ c.if-is_in_order.false)

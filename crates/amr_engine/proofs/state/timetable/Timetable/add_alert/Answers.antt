@@ -2,7 +2,7 @@ use Rattle.std.proofs.Common.{◌<◌, length, refl, sym, ap, subst, ◌∙◌}
 use Rattle.amr_labels.specs.Labels.{LabelSet, label_set_cmp, label_set_cmp_total}
 use Rattle.amr_rules.specs.declared.alert.Alert.{Alert}
 use Rattle.amr_tables.specs.Numbered.{Numbered, number_of, next_number, rank_of, IsNumbering}
-use Rattle.amr_tables.specs.Earliest.{IsTournament}
+use Rattle.amr_tables.specs.Earliest.{IsOrdered}
 use Rattle.amr_engine.specs.State.Timed.{Timed, IsTimed}
 use Rattle.amr_engine.proofs.StateLemmas.Scheduling.{alerts_same, alert_placed, got, not_none}
 use Rattle.amr_engine.proofs.state.timetable.Timetable.add_alert.Goals as goal
@@ -11,15 +11,15 @@ pub invariant_of-self : goal.invariant_of-self
 invariant_of-self c =
     let t = c.self.inside in
     let r = c.make_room.new.moments in
-    let tournament = subst (λ (v : Numbered LabelSet Alert). IsTournament (rank_of label_set_cmp v) r) c.by_number.ensures c.make_room.ensures.kept in
-    alerts_same t.alerts t.timers t.alert_removals t.group_removals t.flushes c.self.invariant t.alerts refl refl r c.make_room.ensures.same c.make_room.ensures.more tournament
+    let ordered = subst (λ (v : Numbered LabelSet Alert). IsOrdered (rank_of label_set_cmp v) r) c.by_number.ensures c.make_room.ensures.kept in
+    alerts_same t.alerts t.timers t.alert_removals t.group_removals t.flushes c.self.invariant t.alerts refl refl r c.make_room.ensures.same c.make_room.ensures.more c.make_room.ensures.held ordered
 
 pub invariant_of-self-in_err-make_place : goal.invariant_of-self-in_err-make_place
 invariant_of-self-in_err-make_place c =
     let t = c.self.inside in
     let r = c.make_room.new.moments in
-    let tournament = subst (λ (v : Numbered LabelSet Alert). IsTournament (rank_of label_set_cmp v) r) c.by_number.ensures c.make_room.ensures.kept in
-    alerts_same t.alerts t.timers t.alert_removals t.group_removals t.flushes c.self.invariant c.make_place.new.self c.in_err-make_place.ensures.kept c.make_place.ensures.shown r c.make_room.ensures.same c.make_room.ensures.more tournament
+    let ordered = subst (λ (v : Numbered LabelSet Alert). IsOrdered (rank_of label_set_cmp v) r) c.by_number.ensures c.make_room.ensures.kept in
+    alerts_same t.alerts t.timers t.alert_removals t.group_removals t.flushes c.self.invariant c.make_place.new.self c.in_err-make_place.ensures.kept c.make_place.ensures.shown r c.make_room.ensures.same c.make_room.ensures.more c.make_room.ensures.held ordered
 
 pub unreachable-requires : goal.unreachable-requires
 unreachable-requires c =
@@ -33,8 +33,8 @@ invariant_of-self-2 c =
     let t = c.self.inside in
     let r = c.make_room.new.moments in
     let labels = c.args.labels.now in
-    let tournament = subst (λ (v : Numbered LabelSet Alert). IsTournament (rank_of label_set_cmp v) r) c.by_number.ensures c.make_room.ensures.kept in
-    let roomy : IsTimed t.alerts t.timers r t.group_removals t.flushes = alerts_same t.alerts t.timers t.alert_removals t.group_removals t.flushes c.self.invariant t.alerts refl refl r c.make_room.ensures.same c.make_room.ensures.more tournament in
+    let ordered = subst (λ (v : Numbered LabelSet Alert). IsOrdered (rank_of label_set_cmp v) r) c.by_number.ensures c.make_room.ensures.kept in
+    let roomy : IsTimed t.alerts t.timers r t.group_removals t.flushes = alerts_same t.alerts t.timers t.alert_removals t.group_removals t.flushes c.self.invariant t.alerts refl refl r c.make_room.ensures.same c.make_room.ensures.more c.make_room.ensures.held ordered in
     alert_placed t.alerts t.timers r t.group_removals t.flushes roomy c.make_place.new.self labels
     (subst (IsNumbering label_set_cmp) c.by_number.ensures c.make_room.ensures.numbering)
     (subst (IsNumbering label_set_cmp) c.by_number-2.ensures c.number_of.ensures.numbering)

@@ -11,22 +11,24 @@ invariant_of-self c =
     let t = c.self.inside in
     let is = c.self.invariant in
     timers_same t.alerts t.timers t.alert_removals t.group_removals t.flushes is t.timers refl refl
-    t.group_removals (λ n. refl) (le_refl (length t.group_removals.moments)) is.groups_removed.tournament
-    c.make_room.new.moments c.make_room.ensures.same c.make_room.ensures.more c.make_room.ensures.kept
+    t.group_removals (λ n. refl) (le_refl (length t.group_removals.moments)) (λ n h. h) is.groups_removed.ordered
+    c.make_room.new.moments c.make_room.ensures.same c.make_room.ensures.more c.make_room.ensures.held c.make_room.ensures.kept
 
 pub invariant_of-self-in_err-make_room-2 : goal.invariant_of-self-in_err-make_room-2
 invariant_of-self-in_err-make_room-2 c =
     let t = c.self.inside in
     timers_same t.alerts t.timers t.alert_removals t.group_removals t.flushes c.self.invariant t.timers refl refl
-    c.make_room-2.new.moments c.make_room-2.ensures.same c.make_room-2.ensures.more c.make_room-2.ensures.kept
-    c.make_room.new.moments c.make_room.ensures.same c.make_room.ensures.more c.make_room.ensures.kept
+    c.make_room-2.new.moments c.make_room-2.ensures.same c.make_room-2.ensures.more c.make_room-2.ensures.held c.make_room-2.ensures.kept
+    c.make_room.new.moments c.make_room.ensures.same c.make_room.ensures.more c.make_room.ensures.held c.make_room.ensures.kept
 
 pub invariant_of-self-in_err-make_place : goal.invariant_of-self-in_err-make_place
 invariant_of-self-in_err-make_place c =
     let t = c.self.inside in
-    timers_same t.alerts t.timers t.alert_removals t.group_removals t.flushes c.self.invariant c.make_place.new.self c.in_err-make_place.ensures.kept c.make_place.ensures.shown
-    c.make_room-2.new.moments c.make_room-2.ensures.same c.make_room-2.ensures.more c.make_room-2.ensures.kept
-    c.make_room.new.moments c.make_room.ensures.same c.make_room.ensures.more c.make_room.ensures.kept
+    let e = c.make_room-2.new.moments in
+    subst (IsTimed t.alerts c.make_place.new.self t.alert_removals e) (sym c.reserve_queue.ensures)
+    (timers_same t.alerts t.timers t.alert_removals t.group_removals t.flushes c.self.invariant c.make_place.new.self c.in_err-make_place.ensures.kept c.make_place.ensures.shown
+    e c.make_room-2.ensures.same c.make_room-2.ensures.more c.make_room-2.ensures.held c.make_room-2.ensures.kept
+    c.make_room.new.moments c.make_room.ensures.same c.make_room.ensures.more c.make_room.ensures.held c.make_room.ensures.kept)
 
 pub returns-in_err-make_place-clause-entered : goal.returns-in_err-make_place-clause-entered
 returns-in_err-make_place-clause-entered c = λ other. c.make_place.ensures.entered other ∙ ap (λ (v : Timed). is_entered route_labels_cmp v.timers other) c.self.view_is
@@ -53,9 +55,10 @@ invariant_of-self-2 c =
     let new : number_of route_labels_cmp t.timers c.in_ok-key.key ≡ None = ap (number_of route_labels_cmp t.timers) c.in_ok-key.ensures.cases ∙ ap (λ (v : Timed). number_of route_labels_cmp v.timers group) c.self.view_is ∙ c.requires in
     let gets : GetsNumber route_labels_cmp t.timers c.make_place.new.self c.in_ok-key.key (next_number t.timers) = c.in_ok-make_place.ensures.number (unplaced route_labels_cmp t.timers c.in_ok-key.key new) in
     let roomy : IsTimed t.alerts t.timers t.alert_removals e f = timers_same t.alerts t.timers t.alert_removals t.group_removals t.flushes c.self.invariant t.timers refl refl
-    e c.make_room-2.ensures.same c.make_room-2.ensures.more c.make_room-2.ensures.kept f c.make_room.ensures.same c.make_room.ensures.more c.make_room.ensures.kept in
-    timer_placed t.alerts t.timers t.alert_removals e f roomy c.make_place.new.self c.in_ok-key.key c.make_room.ensures.numbering c.number_of.ensures.numbering new gets c.make_place.ensures.shown
-    c.in_ok-make_room-2.ensures.room c.in_ok-make_room.ensures.room
+    e c.make_room-2.ensures.same c.make_room-2.ensures.more c.make_room-2.ensures.held c.make_room-2.ensures.kept f c.make_room.ensures.same c.make_room.ensures.more c.make_room.ensures.held c.make_room.ensures.kept in
+    subst (IsTimed t.alerts c.make_place.new.self t.alert_removals e) (sym c.reserve_queue.ensures)
+    (timer_placed t.alerts t.timers t.alert_removals e f roomy c.make_place.new.self c.in_ok-key.key c.make_room.ensures.numbering c.number_of.ensures.numbering new gets c.make_place.ensures.shown
+    c.in_ok-make_room-2.ensures.room c.in_ok-make_room.ensures.room)
 
 pub returns-clause-entered : goal.returns-clause-entered
 returns-clause-entered c = λ other. c.make_place.ensures.entered other ∙ ap (λ (v : Timed). is_entered route_labels_cmp v.timers other) c.self.view_is

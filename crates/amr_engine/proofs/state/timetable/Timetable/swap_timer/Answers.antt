@@ -20,12 +20,12 @@ set-requires-2-clause-room c = c.self.invariant.groups_removed.room c.requires.0
 pub set-requires-clause-kept : goal.set-requires-clause-kept
 set-requires-clause-kept c =
     let t = c.self.inside in
-    ranked route_labels_cmp t.timers c.swap_at-was_entered.new.self c.swap_at-was_entered.ensures.keys t.flushes c.self.invariant.groups_flushed.tournament
+    ranked route_labels_cmp t.timers c.swap_at-was_entered.new.self c.swap_at-was_entered.ensures.keys t.flushes c.self.invariant.groups_flushed.ordered
 
 pub set-requires-2-clause-kept : goal.set-requires-2-clause-kept
 set-requires-2-clause-kept c =
     let t = c.self.inside in
-    ranked route_labels_cmp t.timers c.swap_at-was_entered.new.self c.swap_at-was_entered.ensures.keys t.group_removals c.self.invariant.groups_removed.tournament
+    ranked route_labels_cmp t.timers c.swap_at-was_entered.new.self c.swap_at-was_entered.ensures.keys t.group_removals c.self.invariant.groups_removed.ordered
 
 pub invariant_of-self : goal.invariant_of-self
 invariant_of-self c =
@@ -34,8 +34,8 @@ invariant_of-self c =
     let n = c.args.number in
     let number : number_of route_labels_cmp t.timers group ≡ Some n = ap (λ (v : Timed). number_of route_labels_cmp v.timers group) c.self.view_is ∙ c.requires.1 in
     timer_set t.alerts t.timers t.alert_removals t.group_removals t.flushes c.self.invariant c.swap_at-was_entered.new.self c.set-2.new.self c.set.new.self group n c.args.timer.now number c.swap_at-was_entered.ensures.keys (c.swap_at-was_entered.ensures.shown group number)
-    (c.set-2.ensures.moments ∙ ap (slice_set t.group_removals.moments n) c.removal_moment-removal.ensures) c.set-2.ensures.kept
-    (c.set.ensures.moments ∙ ap (slice_set t.flushes.moments n) c.flush_moment-flush.ensures) c.set.ensures.kept
+    (c.set-2.ensures.moments ∙ ap (slice_set t.group_removals.moments n) c.removal_moment-removal.ensures) c.set-2.ensures.held c.set-2.ensures.kept
+    (c.set.ensures.moments ∙ ap (slice_set t.flushes.moments n) c.flush_moment-flush.ensures) c.set.ensures.held c.set.ensures.kept
 
 pub returns-clause-former : goal.returns-clause-former
 returns-clause-former c = λ group at.

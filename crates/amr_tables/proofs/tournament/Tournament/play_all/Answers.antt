@@ -1,12 +1,12 @@
 use Rattle.std.proofs.Common.{◌≤◌, ◌<◌, ◌-◌, length, sym, ap, ◌∙◌, arith}
 use Rattle.std.proofs.lemmas.Bool.Decides.{nat_tests}
-use Rattle.amr_tables.specs.Earliest.{Earliest, later_winner}
+use Rattle.amr_tables.specs.Tournament.{Tournament, later_winner}
 use Rattle.amr_tables.proofs.Playing.{played_from, length_set}
-use Rattle.amr_tables.proofs.earliest.Earliest.play_all.Goals as goal
+use Rattle.amr_tables.proofs.tournament.Tournament.play_all.Goals as goal
 
 pub loop-node-preserved : goal.loop-node-preserved
 loop-node-preserved g c =
-    let t : Earliest = c.loop-node.self in
+    let t : Tournament = c.loop-node.self in
     let node = c.loop-node.node - 1 in
     let rank = g.O.Ranking.rank c.args.order.now in
     let one : 1 ≤ node = grind (arith, nat_tests) in

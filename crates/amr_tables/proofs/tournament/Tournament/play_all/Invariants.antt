@@ -1,6 +1,6 @@
 use Rattle.std.proofs.Common.{◌≡◌, ◌≤◌, ◌<◌, ℕ, length}
-use Rattle.amr_tables.specs.Earliest.{winner_at, later_winner}
-use Rattle.amr_tables.proofs.earliest.Earliest.play_all.Given as goal
+use Rattle.amr_tables.specs.Tournament.{winner_at, later_winner}
+use Rattle.amr_tables.proofs.tournament.Tournament.play_all.Given as goal
 
 abbrev pub invariant-loop-node : goal.invariant-loop-node
 invariant-loop-node g l = record {

@@ -1,6 +1,6 @@
 use Rattle.std.proofs.Common.{◌≡◌, ◌≤◌, ◌<◌, ◌+◌, length}
 use Rattle.amr_tables.proofs.Playing.{IsClimbed}
-use Rattle.amr_tables.proofs.earliest.Earliest.set.Given as goal
+use Rattle.amr_tables.proofs.tournament.Tournament.set.Given as goal
 
 abbrev pub invariant-loop-node : goal.invariant-loop-node
 invariant-loop-node g l = record {
