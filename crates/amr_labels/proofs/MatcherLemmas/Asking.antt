@@ -18,20 +18,11 @@ and_false : (b : Bool) → (b && false) ≡ false
 and_false true = refl
 and_false false = refl
 
--- one more matcher is asked of label sets with what is known of them
-kept_more : (matcher : Matcher) (known : LabelSet → Bool) (label_sets : List LabelSet)
-    → kept_by matcher label_sets (map known label_sets) ≡ map (λ labels. known labels && holds matcher labels) label_sets
-kept_more matcher known [] = refl
-kept_more matcher known (labels ∷ label_sets) = λ i. (known labels && holds matcher labels) ∷ kept_more matcher known label_sets i
-
-asked_all : (matchers : List Matcher) (known : LabelSet → Bool) (label_sets : List LabelSet)
-    → kept_by_all matchers label_sets (map known label_sets)
-    ≡ map (λ labels. known labels && all_hold matchers labels) label_sets
-asked_all [] known label_sets = λ i. map (λ labels. sym (and_true (known labels)) i) label_sets
-asked_all (matcher ∷ matchers) known label_sets =
-    ap (kept_by_all matchers label_sets) (kept_more matcher known label_sets)
-    ∙ asked_all matchers (λ labels. known labels && holds matcher labels) label_sets
-    ∙ (λ i. map (λ labels. and_assoc (known labels) (holds matcher labels) (all_hold matchers labels) i) label_sets)
+-- a test of label sets with what is known of them
+kept_more : (test known : LabelSet → Bool) (label_sets : List LabelSet)
+    → candidates_after test label_sets (map known label_sets) ≡ map (λ labels. known labels && test labels) label_sets
+kept_more test known [] = refl
+kept_more test known (labels ∷ label_sets) = λ i. (known labels && test labels) ∷ kept_more test known label_sets i
 
 -- the label set's values have the bits that the matchers ask for
 abbrev has_bits : List Matcher → LabelSet → Bool
@@ -55,22 +46,30 @@ pub asked_each : (matchers : List Matcher) (label_sets : List LabelSet)
     ≡ matches_each matchers label_sets
 asked_each matchers label_sets =
     ap (kept_by_all matchers label_sets) (have_bits matchers label_sets)
-    ∙ asked_all matchers (has_bits matchers) label_sets
+    ∙ kept_more (all_hold matchers) (has_bits matchers) label_sets
     ∙ (λ i. map (λ labels. bits_besides matchers labels i) label_sets)
 
--- no label set is left, so one more matcher changes nothing
-none_left : (matcher : Matcher) (label_sets : List LabelSet) (candidates : List Bool) → list_any (λ mark. mark) candidates ≡ false → kept_by matcher label_sets candidates ≡ candidates
-none_left matcher [] candidates none = refl
-none_left matcher (labels ∷ label_sets) [] none = refl
-none_left matcher (labels ∷ label_sets) (true ∷ candidates) none = absurd (true≢false none)
-none_left matcher (labels ∷ label_sets) (false ∷ candidates) none = ap (λ kept. false ∷ kept) (none_left matcher label_sets candidates none)
+-- no label set is left, so a test changes nothing
+pub tested_in_vain : (test : LabelSet → Bool) (label_sets : List LabelSet) (candidates : List Bool) → list_any (λ mark. mark) candidates ≡ false
+    → candidates_after test label_sets candidates ≡ candidates
+tested_in_vain test [] candidates none = refl
+tested_in_vain test (labels ∷ label_sets) [] none = refl
+tested_in_vain test (labels ∷ label_sets) (true ∷ candidates) none = absurd (true≢false none)
+tested_in_vain test (labels ∷ label_sets) (false ∷ candidates) none = ap (λ kept. false ∷ kept) (tested_in_vain test label_sets candidates none)
 
-pub asked_in_vain : (matchers : List Matcher) (label_sets : List LabelSet) (candidates : List Bool) → list_any (λ mark. mark) candidates ≡ false
-    → kept_by_all matchers label_sets candidates ≡ candidates
-asked_in_vain [] label_sets candidates none = refl
-asked_in_vain (matcher ∷ matchers) label_sets candidates none =
-    ap (kept_by_all matchers label_sets) (none_left matcher label_sets candidates none)
-    ∙ asked_in_vain matchers label_sets candidates none
+-- no matcher is left, so all stay
+pub kept_by_none : (label_sets : List LabelSet) (candidates : List Bool) → kept_by_all [] label_sets candidates ≡ candidates
+kept_by_none [] candidates = refl
+kept_by_none (labels ∷ label_sets) [] = refl
+kept_by_none (labels ∷ label_sets) (mark ∷ candidates) = λ i. and_true mark i ∷ kept_by_none label_sets candidates i
+
+-- the first matcher is asked, then the others
+pub kept_by_first : (matcher : Matcher) (matchers : List Matcher) (label_sets : List LabelSet) (candidates : List Bool)
+    → kept_by_all matchers label_sets (kept_by matcher label_sets candidates) ≡ kept_by_all (matcher ∷ matchers) label_sets candidates
+kept_by_first matcher matchers [] candidates = refl
+kept_by_first matcher matchers (labels ∷ label_sets) [] = refl
+kept_by_first matcher matchers (labels ∷ label_sets) (mark ∷ candidates) =
+    λ i. and_assoc mark (holds matcher labels) (all_hold matchers labels) i ∷ kept_by_first matcher matchers label_sets candidates i
 
 -- the mark at an index is changed after those before it
 mark_next : (test : LabelSet → Bool) (label_sets : List LabelSet) (candidates : List Bool) (index : ℕ) (labels : LabelSet)

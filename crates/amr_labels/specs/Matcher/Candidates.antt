@@ -1,5 +1,5 @@
 -- Label sets of which a list of matchers is asked one matcher after the other.
-use Rattle.std.specs.Prelude.{ℕ, Bool, ◌==◌, ◌&&◌, not, List, [], ◌∷◌, map, fold, bit_or, if◌then◌else◌}
+use Rattle.std.specs.Prelude.{ℕ, Bool, ◌==◌, ◌&&◌, not, List, [], ◌∷◌, map, bit_or, if◌then◌else◌}
 use Rattle.std.specs.Ordering.{eq_by_cmp}
 use Rattle.amr_labels.specs.Labels.{LabelSet, Text, text_cmp, value_of}
 use Rattle.amr_labels.specs.Matcher.Patterns.{pattern_matches}
@@ -15,13 +15,13 @@ candidates_after test (labels ∷ label_sets) (candidate ∷ candidates) = (cand
 candidates_after test [] candidates = candidates
 candidates_after test (labels ∷ label_sets) [] = []
 
--- one more matcher is asked
+-- the matcher matches them too
 abbrev pub kept_by : Matcher → List LabelSet → List Bool → List Bool
 kept_by matcher = candidates_after (holds matcher)
 
--- all these matchers are asked, one after the other
+-- all these matchers match them too
 abbrev pub kept_by_all : List Matcher → List LabelSet → List Bool → List Bool
-kept_by_all matchers label_sets candidates = fold (λ kept matcher. kept_by matcher label_sets kept) candidates matchers
+kept_by_all matchers = candidates_after (all_hold matchers)
 
 -- the label with this name is compared too
 abbrev pub kept_where : (Text → Bool) → Text → List LabelSet → List Bool → List Bool

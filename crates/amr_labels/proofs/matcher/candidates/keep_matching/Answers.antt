@@ -1,10 +1,33 @@
-use Rattle.std.proofs.Common.{◌≡◌, ◌∙◌, false, drop, sym}
+use Rattle.std.proofs.Common.{◌≡◌, ◌∙◌, ◌+◌, [], ◌∷◌, false, drop, sym, ap, drop-cons, add-one, drop_of_length-le, arith}
 use Rattle.std.specs.List.{list_any}
-use Rattle.amr_labels.proofs.MatcherLemmas.Asking.{asked_in_vain}
+use Rattle.amr_labels.specs.Matcher.Matchers.{all_hold}
+use Rattle.amr_labels.specs.Matcher.Candidates.{kept_by_all}
+use Rattle.amr_labels.proofs.MatcherLemmas.Asking.{tested_in_vain, kept_by_none, kept_by_first}
 use Rattle.amr_labels.proofs.matcher.candidates.keep_matching.Goals as goal
 
 pub returns-then-not-is_any_left : goal.returns-then-not-is_any_left
 returns-then-not-is_any_left c =
     let candidates = c.loop-matcher.candidates in
     let none : list_any (λ candidate. candidate) candidates ≡ false = sym c.is_any_left.ensures ∙ c.if-not-is_any_left.true in
-    sym (asked_in_vain (drop c.loop-matcher.matcher-index c.args.matchers.now) c.args.label_sets.now candidates none) ∙ c.loop-matcher.invariant
+    sym (tested_in_vain (all_hold (drop c.loop-matcher.matcher-index c.args.matchers.now)) c.args.label_sets.now candidates none) ∙ c.loop-matcher.invariant
+
+pub loop-matcher-preserved : goal.loop-matcher-preserved
+loop-matcher-preserved c =
+    let matchers = c.args.matchers.now in
+    let label_sets = c.args.label_sets.now in
+    let index = c.loop-matcher.matcher-index in
+    let matcher = c.matcher-item.result in
+    let next : drop index matchers ≡ matcher ∷ drop (index + 1) matchers =
+    rw add-one (drop-cons matchers index matcher c.loop-matcher-test.true) ∙ ap (λ first. first ∷ drop (index + 1) matchers) (sym c.matcher-item.is) in
+    ap (kept_by_all (drop (index + 1) matchers) label_sets) c.in_ok-keep.ensures
+    ∙ kept_by_first matcher (drop (index + 1) matchers) label_sets c.loop-matcher.candidates
+    ∙ ap (λ left. kept_by_all left label_sets c.loop-matcher.candidates) (sym next)
+    ∙ c.loop-matcher.invariant
+
+pub returns : goal.returns
+returns c =
+    let matchers = c.args.matchers.now in
+    let none : drop c.loop-matcher.matcher-index matchers ≡ [] = drop_of_length-le matchers {i = c.loop-matcher.matcher-index} (omega (arith, c.loop-matcher-test.false)) in
+    sym (kept_by_none c.args.label_sets.now c.loop-matcher.candidates)
+    ∙ ap (λ left. kept_by_all left c.args.label_sets.now c.loop-matcher.candidates) (sym none)
+    ∙ c.loop-matcher.invariant
