@@ -1,31 +1,21 @@
 -- The first of a queue and the first of the rest: the earlier is the earliest of all.
-use Rattle.std.proofs.Common.{◌≡◌, ◌≢◌, inl, inr, ℕ, zero, suc, ◌<◌, ◌≤◌, Bool, true, false, not, List, [], ◌∷◌, ◌++◌, take, replicate, Option, Some, None, length, is_some, refl, sym, ap, subst, ◌∙◌, arith}
+use Rattle.std.proofs.Common.{◌≡◌, ◌≢◌, inl, inr, ℕ, zero, suc, ◌<◌, ◌≤◌, Bool, true, false, not, List, [], ◌∷◌, ◌++◌, take, replicate, Option, Some, None, length, refl, sym, ap, subst, ◌∙◌, arith}
 use Rattle.std.specs.Prelude.{◌⊎◌, slice_get, slice_set, option_map, if◌then◌else◌}
-use Rattle.std.proofs.lemmas.Bool.{true≢false}
+use Rattle.std.proofs.lemmas.Bool.{cases_eq, not-true, not-false}
+use Rattle.std.proofs.lemmas.Option.{none-some}
 use Rattle.std.specs.declared.cmp.Ordering.{Ordering}
 use Rattle.std.specs.Ordering.{nat_cmp, ordering_then, is_gt}
 use Rattle.std.specs.Cmp.{IsTotalOrder}
-use Rattle.amr_tables.specs.declared.earliest.Turn.{Turn}
+use Rattle.amr_tables.specs.declared.earliest.NumberedMoment.{NumberedMoment}
 use Rattle.amr_tables.specs.Places.{value_at, values_of}
 use Rattle.amr_tables.specs.Tournament.{Tournament, timer_cmp, winner_at, first_of, IsTournament}
 use Rattle.amr_tables.specs.Tournament as tournament
 use Rattle.amr_tables.specs.Earliest.{Earliest, moment_at, StandsIn, Stands, IsHeld, IsCurrent, IsFrontCurrent, IsWinnerCurrent, is_in_order, IsQueue, AreKept, IsOrdered, IsEarliest, AgreeOn}
 use Rattle.amr_tables.proofs.Placing.{value_set, value_apart}
-use Rattle.amr_tables.proofs.Playing.{timer_total, not_after_then, not_after_back, itself, not_before, winner_first, none_earlier, same_or_apart, tournament_agrees}
-
-some_or_none : {A : Type 0} (a : A) → Some a ≡ None → ⊥
-some_or_none a e = true≢false (ap is_some e)
-
-is_false : (b : Bool) → not b ≡ true → b ≡ false
-is_false true h = absurd (true≢false (sym h))
-is_false false h = refl
-
-is_true : (b : Bool) → not b ≡ false → b ≡ true
-is_true true h = refl
-is_true false h = absurd (true≢false h)
+use Rattle.amr_tables.proofs.Playing.{timer_total, not_after_then, not_after_back, itself, not_before, winner_first, none_earlier, tournament_agrees}
 
 within : (moments : List (Option ℕ)) (n m : ℕ) → value_at moments n ≡ Some m → n < length moments
-within [] n m at = absurd (some_or_none m (sym at))
+within [] n m at = absurd (none-some m at)
 within (x ∷ moments) zero m at = omega arith
 within (x ∷ moments) (suc n) m at = let less = within moments n m at in omega (arith, less)
 
@@ -36,7 +26,7 @@ pub first_has : (t : Tournament) (n : ℕ) → first_of t ≡ Some n → (m : �
 first_has t n is = by (tournament.moment_at t (winner_at t 1)) refl is
   where
     by : (x : Option ℕ) → tournament.moment_at t (winner_at t 1) ≡ x → option_map (λ _. winner_at t 1) x ≡ Some n → (m : ℕ) × ((tournament.moment_at t n ≡ Some m) × (winner_at t 1 ≡ n))
-    by None at e = absurd (some_or_none n (sym e))
+    by None at e = absurd (none-some n e)
     by (Some m) at e = let same : winner_at t 1 ≡ n = cc in (m, (ap (tournament.moment_at t) (sym same) ∙ at, same))
 
 pub first_within : (t : Tournament) (n : ℕ) → first_of t ≡ Some n → n < length t.moments
@@ -47,58 +37,58 @@ none_wins t is = by (tournament.moment_at t (winner_at t 1)) is
   where
     by : (x : Option ℕ) → option_map (λ _. winner_at t 1) x ≡ None → x ≡ None
     by None e = refl
-    by (Some m) e = absurd (some_or_none (winner_at t 1) e)
+    by (Some m) e = absurd (none-some (winner_at t 1) (sym e))
 
 module _ (rank : ℕ → ℕ → Ordering) where
-  abbrev NotAfter : Turn → Turn → Type 0
+  abbrev NotAfter : NumberedMoment → NumberedMoment → Type 0
   NotAfter a b = is_gt (timer_cmp rank (Some a.moment, a.number) (Some b.moment, b.number)) ≡ false
 
   module _ (order : IsTotalOrder rank) where
-    queue_least : (first : Turn) (queue : List Turn) → IsQueue rank (first ∷ queue) → (w : Turn) → StandsIn (first ∷ queue) w → NotAfter first w
-    queue_least first queue is w (inl same) = subst (NotAfter first) same (itself (timer_total order) (Some first.moment, first.number))
-    queue_least first [] is w (inr h) = absurd h
-    queue_least first (x ∷ queue) is w (inr h) =
-        not_after_then (timer_total order) (Some first.moment, first.number) (Some x.moment, x.number) (Some w.moment, w.number)
-        (is_false _ is.0) (queue_least x queue is.1 w h)
+    queue_least : (first : NumberedMoment) (queue : List NumberedMoment) → IsQueue rank (first ∷ queue) → (s : NumberedMoment) → StandsIn (first ∷ queue) s → NotAfter first s
+    queue_least first queue is s (inl same) = subst (NotAfter first) same (itself (timer_total order) (Some first.moment, first.number))
+    queue_least first [] is s (inr h) = absurd h
+    queue_least first (x ∷ queue) is s (inr h) =
+        not_after_then (timer_total order) (Some first.moment, first.number) (Some x.moment, x.number) (Some s.moment, s.number)
+        (not-true _ is.0) (queue_least x queue is.1 s h)
 
     module _ (e : Earliest) (ordered : IsOrdered rank e) where
       -- ---- the front of the queue
 
-      front_least : (v : Turn) → slice_get e.queue 0 ≡ Some v → IsCurrent e v × ((w : Turn) → StandsIn e.queue w → NotAfter v w)
+      front_least : (v : NumberedMoment) → slice_get e.queue 0 ≡ Some v → IsCurrent e v × ((s : NumberedMoment) → StandsIn e.queue s → NotAfter v s)
       front_least v is = by e.queue ordered.kept.queue ordered.front is
         where
-          by : (queue : List Turn) → IsQueue rank queue → IsFrontCurrent e queue → slice_get queue 0 ≡ Some v → IsCurrent e v × ((w : Turn) → StandsIn queue w → NotAfter v w)
-          by [] sorted front is = absurd (some_or_none v (sym is))
+          by : (queue : List NumberedMoment) → IsQueue rank queue → IsFrontCurrent e queue → slice_get queue 0 ≡ Some v → IsCurrent e v × ((s : NumberedMoment) → StandsIn queue s → NotAfter v s)
+          by [] sorted front is = absurd (none-some v is)
           by (x ∷ queue) sorted front is =
               let same : x ≡ v = cc in (
                 subst (IsCurrent e) same front,
-                λ w h. subst (λ y. NotAfter y w) same (queue_least x queue sorted w h),
+                λ s h. subst (λ y. NotAfter y s) same (queue_least x queue sorted s h),
               )
 
-      no_front : slice_get e.queue 0 ≡ None → (w : Turn) → StandsIn e.queue w → ⊥
+      no_front : slice_get e.queue 0 ≡ None → (s : NumberedMoment) → StandsIn e.queue s → ⊥
       no_front is = by e.queue is
         where
-          by : (queue : List Turn) → slice_get queue 0 ≡ None → (w : Turn) → StandsIn queue w → ⊥
-          by [] is w h = h
-          by (x ∷ queue) is w h = some_or_none x is
+          by : (queue : List NumberedMoment) → slice_get queue 0 ≡ None → (s : NumberedMoment) → StandsIn queue s → ⊥
+          by [] is s h = h
+          by (x ∷ queue) is s h = none-some x (sym is)
 
       -- ---- the winner of the rest
 
-      winner_least : (v : Turn) → first_of e.rest ≡ Some v.number → tournament.moment_at e.rest v.number ≡ Some v.moment
-          → IsCurrent e v × ((w : Turn) → tournament.moment_at e.rest w.number ≡ Some w.moment → NotAfter v w)
+      winner_least : (v : NumberedMoment) → first_of e.rest ≡ Some v.number → tournament.moment_at e.rest v.number ≡ Some v.moment
+          → IsCurrent e v × ((s : NumberedMoment) → tournament.moment_at e.rest s.number ≡ Some s.moment → NotAfter v s)
       winner_least v wins at =
           let is = (first_has e.rest v.number wins).1.1 in (
             sym (ordered.winner v.number wins) ∙ at,
-            λ w there. subst (λ n. is_gt (timer_cmp rank (Some v.moment, n) (Some w.moment, w.number)) ≡ false) is
-                (winner_first rank e.rest order ordered.kept.rest v.moment w.number w.moment (ap (tournament.moment_at e.rest) is ∙ at) there),
+            λ s there. subst (λ n. is_gt (timer_cmp rank (Some v.moment, n) (Some s.moment, s.number)) ≡ false) is
+                (winner_first rank e.rest order ordered.kept.rest v.moment s.number s.moment (ap (tournament.moment_at e.rest) is ∙ at) there),
           )
 
-      no_winner : first_of e.rest ≡ None → (w : Turn) → tournament.moment_at e.rest w.number ≡ Some w.moment → ⊥
-      no_winner is w at = some_or_none w.moment (sym at ∙ none_earlier rank e.rest order ordered.kept.rest (none_wins e.rest is) w.number)
+      no_winner : first_of e.rest ≡ None → (s : NumberedMoment) → tournament.moment_at e.rest s.number ≡ Some s.moment → ⊥
+      no_winner is s at = none-some s.moment (sym (none_earlier rank e.rest order ordered.kept.rest (none_wins e.rest is) s.number) ∙ at)
 
       -- ---- the earliest of all
 
-      earliest_is : (v : Turn) → IsCurrent e v → ((w : Turn) → Stands e w → NotAfter v w) → IsEarliest rank e v.number
+      earliest_is : (v : NumberedMoment) → IsCurrent e v → ((s : NumberedMoment) → Stands e s → NotAfter v s) → IsEarliest rank e v.number
       earliest_is v current least =
           (v.moment, current, λ j x at. not_before v.moment x (rank v.number j) (least (record { moment = x; number = j }) (ordered.kept.stands (record { moment = x; number = j }) at)))
 
@@ -113,46 +103,46 @@ module _ (rank : ℕ → ℕ → Ordering) where
           by None at = refl
           by (Some m) at = absurd (none_stands m (ordered.kept.stands (record { moment = m; number = n }) at))
 
-      pub front_alone : (v : Turn) → slice_get e.queue 0 ≡ Some v → first_of e.rest ≡ None → IsEarliest rank e v.number
-      front_alone v front winner = let first = front_least v front in earliest_is v first.0 (λ w stands. by w first.1 stands)
+      pub front_alone : (v : NumberedMoment) → slice_get e.queue 0 ≡ Some v → first_of e.rest ≡ None → IsEarliest rank e v.number
+      front_alone v front winner = let first = front_least v front in earliest_is v first.0 (λ s stands. by s first.1 stands)
         where
-          by : (w : Turn) → ((w : Turn) → StandsIn e.queue w → NotAfter v w) → Stands e w → NotAfter v w
-          by w least (inl h) = least w h
-          by w least (inr h) = absurd (no_winner winner w h)
+          by : (s : NumberedMoment) → ((s : NumberedMoment) → StandsIn e.queue s → NotAfter v s) → Stands e s → NotAfter v s
+          by s least (inl h) = least s h
+          by s least (inr h) = absurd (no_winner winner s h)
 
-      pub winner_alone : (v : Turn) → slice_get e.queue 0 ≡ None → first_of e.rest ≡ Some v.number → tournament.moment_at e.rest v.number ≡ Some v.moment → IsEarliest rank e v.number
-      winner_alone v front wins at = let first = winner_least v wins at in earliest_is v first.0 (λ w stands. by w first.1 stands)
+      pub winner_alone : (v : NumberedMoment) → slice_get e.queue 0 ≡ None → first_of e.rest ≡ Some v.number → tournament.moment_at e.rest v.number ≡ Some v.moment → IsEarliest rank e v.number
+      winner_alone v front wins at = let first = winner_least v wins at in earliest_is v first.0 (λ s stands. by s first.1 stands)
         where
-          by : (w : Turn) → ((w : Turn) → tournament.moment_at e.rest w.number ≡ Some w.moment → NotAfter v w) → Stands e w → NotAfter v w
-          by w least (inl h) = absurd (no_front front w h)
-          by w least (inr h) = least w h
+          by : (s : NumberedMoment) → ((s : NumberedMoment) → tournament.moment_at e.rest s.number ≡ Some s.moment → NotAfter v s) → Stands e s → NotAfter v s
+          by s least (inl h) = absurd (no_front front s h)
+          by s least (inr h) = least s h
 
-      module _ (f v : Turn) (front : slice_get e.queue 0 ≡ Some f) (wins : first_of e.rest ≡ Some v.number) (at : tournament.moment_at e.rest v.number ≡ Some v.moment) where
-        through : (a b w : Turn) → NotAfter a b → NotAfter b w → NotAfter a w
-        through a b w = not_after_then (timer_total order) (Some a.moment, a.number) (Some b.moment, b.number) (Some w.moment, w.number)
+      module _ (f v : NumberedMoment) (front : slice_get e.queue 0 ≡ Some f) (wins : first_of e.rest ≡ Some v.number) (at : tournament.moment_at e.rest v.number ≡ Some v.moment) where
+        through : (a b s : NumberedMoment) → NotAfter a b → NotAfter b s → NotAfter a s
+        through a b s = not_after_then (timer_total order) (Some a.moment, a.number) (Some b.moment, b.number) (Some s.moment, s.number)
 
         pub front_first : is_in_order rank f v ≡ true → IsEarliest rank e f.number
-        front_first before = earliest_is f (front_least f front).0 (λ w stands. by w stands)
+        front_first before = earliest_is f (front_least f front).0 (λ s stands. by s stands)
           where
-            by : (w : Turn) → Stands e w → NotAfter f w
-            by w (inl h) = (front_least f front).1 w h
-            by w (inr h) = through f v w (is_false _ before) ((winner_least v wins at).1 w h)
+            by : (s : NumberedMoment) → Stands e s → NotAfter f s
+            by s (inl h) = (front_least f front).1 s h
+            by s (inr h) = through f v s (not-true _ before) ((winner_least v wins at).1 s h)
 
         pub winner_before : is_in_order rank f v ≡ false → IsEarliest rank e v.number
-        winner_before after = earliest_is v (winner_least v wins at).0 (λ w stands. by w stands)
+        winner_before after = earliest_is v (winner_least v wins at).0 (λ s stands. by s stands)
           where
             earlier : NotAfter v f
-            earlier = not_after_back (timer_total order) (Some f.moment, f.number) (Some v.moment, v.number) (is_true _ after)
+            earlier = not_after_back (timer_total order) (Some f.moment, f.number) (Some v.moment, v.number) (not-false _ after)
 
-            by : (w : Turn) → Stands e w → NotAfter v w
-            by w (inl h) = through v f w earlier ((front_least f front).1 w h)
-            by w (inr h) = (winner_least v wins at).1 w h
+            by : (s : NumberedMoment) → Stands e s → NotAfter v s
+            by s (inl h) = through v f s earlier ((front_least f front).1 s h)
+            by s (inr h) = (winner_least v wins at).1 s h
 
 -- ---- a winner that isn't current leaves
 
 fewer_values : (moments : List (Option ℕ)) (n m : ℕ) → value_at moments n ≡ Some m → length (values_of (slice_set moments n None)) < length (values_of moments)
-fewer_values [] n m at = absurd (some_or_none m (sym at))
-fewer_values (None ∷ moments) zero m at = absurd (some_or_none m (sym at))
+fewer_values [] n m at = absurd (none-some m at)
+fewer_values (None ∷ moments) zero m at = absurd (none-some m at)
 fewer_values (Some x ∷ moments) zero m at = omega arith
 fewer_values (None ∷ moments) (suc n) m at = fewer_values moments n m at
 fewer_values (Some x ∷ moments) (suc n) m at = let less = fewer_values moments n m at in omega (arith, less)
@@ -169,54 +159,45 @@ module _ (e : Earliest) (n : ℕ) (wins : first_of e.rest ≡ Some n) (next : To
 
   pub held_without_winner : (k : ℕ) → IsHeld without k → IsHeld e k
   held_without_winner k (m, inl h) = (m, inl h)
-  held_without_winner k (m, inr h) = by (same_or_apart k n)
+  held_without_winner k (m, inr h) = by (cases_eq k n)
     where
       here : value_at (slice_set e.rest.moments n None) k ≡ Some m
       here = ap (λ l. value_at l k) (sym set) ∙ h
 
       by : (k ≡ n) ⊎ (k ≢ n) → IsHeld e k
-      by (inl same) = absurd (some_or_none m (sym here ∙ ap (value_at (slice_set e.rest.moments n None)) same ∙ value_set e.rest.moments n None (first_within e.rest n wins)))
+      by (inl same) = absurd (none-some m (sym (sym here ∙ ap (value_at (slice_set e.rest.moments n None)) same ∙ value_set e.rest.moments n None (first_within e.rest n wins))))
       by (inr apart) = (m, inr (sym (value_apart e.rest.moments n k None apart) ∙ here))
 
   pub winner_leaves : (rank : ℕ → ℕ → Ordering) → tournament.moment_at e.rest n ≢ moment_at e n → IsTournament rank next → AreKept rank e → AreKept rank without
   winner_leaves rank outdated played kept = record {
     queue = kept.queue;
     rest = played;
-    stands = λ w at. by w at (kept.stands w at);
+    stands = λ s at. by s at (kept.stands s at);
   }
     where
-      by : (w : Turn) → IsCurrent e w → Stands e w → Stands without w
-      by w at (inl h) = inl h
-      by w at (inr h) = from (same_or_apart w.number n)
+      by : (s : NumberedMoment) → IsCurrent e s → Stands e s → Stands without s
+      by s at (inl h) = inl h
+      by s at (inr h) = from (cases_eq s.number n)
         where
-          from : (w.number ≡ n) ⊎ (w.number ≢ n) → Stands without w
+          from : (s.number ≡ n) ⊎ (s.number ≢ n) → Stands without s
           from (inl same) = absurd (outdated (ap (tournament.moment_at e.rest) (sym same) ∙ h ∙ sym at ∙ ap (moment_at e) same))
-          from (inr apart) = inr (ap (λ l. value_at l w.number) set ∙ value_apart e.rest.moments n w.number None apart ∙ h)
+          from (inr apart) = inr (ap (λ l. value_at l s.number) set ∙ value_apart e.rest.moments n s.number None apart ∙ h)
 
 -- ---- a number loses its moment, and gets another
-
-pub set_again : (moments : List (Option ℕ)) (n : ℕ) (a b : Option ℕ) → slice_set (slice_set moments n a) n b ≡ slice_set moments n b
-set_again [] n a b = refl
-set_again (x ∷ moments) zero a b = refl
-set_again (x ∷ moments) (suc n) a b = ap (λ l. x ∷ l) (set_again moments n a b)
 
 pub kept_without : (rank : ℕ → ℕ → Ordering) (e : Earliest) (n : ℕ) → n < length e.moments → AreKept rank e → AreKept rank (record e { moments = slice_set e.moments n None })
 kept_without rank e n room kept = record {
   queue = kept.queue;
   rest = kept.rest;
-  stands = λ w at. kept.stands w (by w at (same_or_apart w.number n));
+  stands = λ s at. kept.stands s (by s at (cases_eq s.number n));
 }
   where
-    by : (w : Turn) → value_at (slice_set e.moments n None) w.number ≡ Some w.moment → (w.number ≡ n) ⊎ (w.number ≢ n) → IsCurrent e w
-    by w at (inl same) = absurd (some_or_none w.moment (sym at ∙ ap (value_at (slice_set e.moments n None)) same ∙ value_set e.moments n None room))
-    by w at (inr apart) = sym (value_apart e.moments n w.number None apart) ∙ at
-
-pub either : {A B C : Type 0} → (A → B) → A ⊎ C → B ⊎ C
-either f (inl a) = inl (f a)
-either f (inr b) = inr b
+    by : (s : NumberedMoment) → value_at (slice_set e.moments n None) s.number ≡ Some s.moment → (s.number ≡ n) ⊎ (s.number ≢ n) → IsCurrent e s
+    by s at (inl same) = absurd (none-some s.moment (sym (sym at ∙ ap (value_at (slice_set e.moments n None)) same ∙ value_set e.moments n None room)))
+    by s at (inr apart) = sym (value_apart e.moments n s.number None apart) ∙ at
 
 -- a shorter queue holds no other number
-pub held_shorter : (e u : Earliest) → u.rest ≡ e.rest → ((w : Turn) → StandsIn u.queue w → StandsIn e.queue w) → (n : ℕ) → IsHeld u n → IsHeld e n
+pub held_shorter : (e u : Earliest) → u.rest ≡ e.rest → ((s : NumberedMoment) → StandsIn u.queue s → StandsIn e.queue s) → (n : ℕ) → IsHeld u n → IsHeld e n
 held_shorter e u rest queue n (m, inl h) = (m, inl (queue (record { moment = m; number = n }) h))
 held_shorter e u rest queue n (m, inr h) = (m, inr (ap (λ (t : Tournament). tournament.moment_at t n) (sym rest) ∙ h))
 
@@ -242,9 +223,9 @@ value_resized false moments n r k h = refl
 pub front_same : (e u : Earliest) → u.moments ≡ e.moments → u.queue ≡ e.queue → IsFrontCurrent e e.queue → IsFrontCurrent u u.queue
 front_same e u moments queue front = subst (IsFrontCurrent u) (sym queue) (by e.queue front)
   where
-    by : (l : List Turn) → IsFrontCurrent e l → IsFrontCurrent u l
+    by : (l : List NumberedMoment) → IsFrontCurrent e l → IsFrontCurrent u l
     by [] h = tt
-    by (w ∷ l) h = ap (λ ms. value_at ms w.number) moments ∙ h
+    by (s ∷ l) h = ap (λ ms. value_at ms s.number) moments ∙ h
 
 module _ (rank : ℕ → ℕ → Ordering) (e : Earliest) (moments : List (Option ℕ)) (same : (n : ℕ) → value_at moments n ≡ moment_at e n) where
   abbrev padded : Earliest
@@ -252,23 +233,23 @@ module _ (rank : ℕ → ℕ → Ordering) (e : Earliest) (moments : List (Optio
 
   pub ordered_padded : AreKept rank e → IsFrontCurrent e e.queue → IsWinnerCurrent e → IsOrdered rank padded
   ordered_padded kept front winner = record {
-    kept = record { queue = kept.queue; rest = kept.rest; stands = λ w at. kept.stands w (sym (same w.number) ∙ at) };
+    kept = record { queue = kept.queue; rest = kept.rest; stands = λ s at. kept.stands s (sym (same s.number) ∙ at) };
     front = by e.queue front;
     winner = λ n wins. winner n wins ∙ sym (same n);
   }
     where
-      by : (queue : List Turn) → IsFrontCurrent e queue → IsFrontCurrent padded queue
+      by : (queue : List NumberedMoment) → IsFrontCurrent e queue → IsFrontCurrent padded queue
       by [] h = tt
-      by (w ∷ queue) h = same w.number ∙ h
+      by (s ∷ queue) h = same s.number ∙ h
 
 -- ---- the same moments in a longer tournament
 
 pub kept_longer : (rank : ℕ → ℕ → Ordering) (e : Earliest) (rest : Tournament) → ((n : ℕ) → tournament.moment_at rest n ≡ tournament.moment_at e.rest n) → IsTournament rank rest → AreKept rank e → AreKept rank (record e { rest = rest })
-kept_longer rank e rest same played kept = record { queue = kept.queue; rest = played; stands = λ w at. by w (kept.stands w at) }
+kept_longer rank e rest same played kept = record { queue = kept.queue; rest = played; stands = λ s at. by s (kept.stands s at) }
   where
-    by : (w : Turn) → Stands e w → Stands (record e { rest = rest }) w
-    by w (inl h) = inl h
-    by w (inr h) = inr (same w.number ∙ h)
+    by : (s : NumberedMoment) → Stands e s → Stands (record e { rest = rest }) s
+    by s (inl h) = inl h
+    by s (inr h) = inr (same s.number ∙ h)
 
 pub held_longer : (e : Earliest) (rest : Tournament) → ((n : ℕ) → tournament.moment_at rest n ≡ tournament.moment_at e.rest n) → (n : ℕ) → IsHeld (record e { rest = rest }) n → IsHeld e n
 held_longer e rest same n (m, inl h) = (m, inl h)
@@ -277,19 +258,19 @@ held_longer e rest same n (m, inr h) = (m, inr (sym (same n) ∙ h))
 -- ---- another order of the same numbers
 
 module _ (rank other : ℕ → ℕ → Ordering) (e : Earliest) (agree : AgreeOn e rank other) where
-  agrees : (a b : Turn) → Stands e a → Stands e b → is_in_order other a b ≡ is_in_order rank a b
+  agrees : (a b : NumberedMoment) → Stands e a → Stands e b → is_in_order other a b ≡ is_in_order rank a b
   agrees a b p q = ap (λ o. not (is_gt (ordering_then (nat_cmp a.moment b.moment) o))) (sym (agree a.number b.number (a.moment, p) (b.moment, q)))
 
-  queue_agrees : (queue : List Turn) → ((w : Turn) → StandsIn queue w → Stands e w) → IsQueue rank queue → IsQueue other queue
+  queue_agrees : (queue : List NumberedMoment) → ((s : NumberedMoment) → StandsIn queue s → Stands e s) → IsQueue rank queue → IsQueue other queue
   queue_agrees [] all is = tt
-  queue_agrees (w ∷ []) all is = tt
-  queue_agrees (w ∷ x ∷ queue) all is = (agrees w x (all w (inl refl)) (all x (inr (inl refl))) ∙ is.0, queue_agrees (x ∷ queue) (λ y h. all y (inr h)) is.1)
+  queue_agrees (s ∷ []) all is = tt
+  queue_agrees (s ∷ x ∷ queue) all is = (agrees s x (all s (inl refl)) (all x (inr (inl refl))) ∙ is.0, queue_agrees (x ∷ queue) (λ y h. all y (inr h)) is.1)
 
   -- all stands under another order that agrees on all numbers that are held
   pub ordered_agrees : IsOrdered rank e → IsOrdered other e
   ordered_agrees is = record {
     kept = record {
-      queue = queue_agrees e.queue (λ w h. inl h) is.kept.queue;
+      queue = queue_agrees e.queue (λ s h. inl h) is.kept.queue;
       rest = tournament_agrees rank other e.rest (λ a b x y p q. agree a b (x, inr p) (y, inr q)) is.kept.rest;
       stands = is.kept.stands;
     };

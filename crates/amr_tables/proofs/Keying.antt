@@ -10,18 +10,16 @@ use Rattle.std.proofs.lemmas.Cmp.{on_total}
 use Rattle.std.specs.FinMap.{find, put}
 use Rattle.std.specs.FinMap.Entries.{by_order}
 use Rattle.std.specs.List.{IsDistinct}
+use Rattle.std.proofs.lemmas.Bool.{cases_lt}
 use Rattle.std.proofs.lemmas.Bool.Decides.{nat_tests}
 use Rattle.std.proofs.lemmas.Map.Keys.{IsDistinct-tail}
+use Rattle.std.proofs.lemmas.Option.{none-some}
 use Rattle.amr_tables.specs.Numbered.{Numbered, numbered_from, key_with, key_at, rank_of}
 use Rattle.amr_tables.proofs.Counting.{new_first}
-use Rattle.amr_tables.proofs.Playing.{split}
 
 -- numbers are ordered by their keys
 pub rank_of-total : {K V : Type 0} {R : K → K → Ordering} → IsTotalOrder R → (t : Numbered K V) → IsTotalOrder (rank_of R t)
 rank_of-total o t = on_total (key_at t) (options_total o)
-
-some_none : {A : Type 0} (x : A) → Some x ≡ None → ⊥
-some_none x e = cc
 
 both_are : (a b m : ℕ) → (a == m) ≡ true → (b == m) ≡ true → (a == b) ≡ true
 both_are a b m p q = grind (arith, nat_tests)
@@ -33,12 +31,12 @@ swapped false true x y z apart = refl
 swapped false false x y z apart = refl
 
 free_first : {K : Type 0} (e : K × ℕ) (es : List (K × ℕ)) (n : ℕ) → key_with (e ∷ es) n ≡ None → (e.1 == n) ≡ true → ⊥
-free_first e es n free same = some_none e.0 (ap (λ b. if b then Some e.0 else key_with es n) (sym same) ∙ free)
+free_first e es n free same = none-some e.0 (sym (ap (λ b. if b then Some e.0 else key_with es n) (sym same) ∙ free))
 
 free_rest : {K : Type 0} (e : K × ℕ) (es : List (K × ℕ)) (n : ℕ) → key_with (e ∷ es) n ≡ None → key_with es n ≡ None
 free_rest e es n free =
     elim (e.1 == n) as (λ b. (e.1 == n) ≡ b → (if b then Some e.0 else key_with es n) ≡ None → key_with es n ≡ None) [
-      | true ↦ λ _ h. absurd (some_none e.0 h)
+      | true ↦ λ _ h. absurd (none-some e.0 (sym h))
       | false ↦ λ _ h. h
     ] refl free
 
@@ -49,7 +47,7 @@ module _ {K : Type 0} (R : K → K → Ordering) where
   key_with-put k n m (e ∷ es) none free =
       elim (R k e.0) as (λ r. R k e.0 ≡ r → key_with (by_order r ((k, n) ∷ e ∷ es) ((e.0, n) ∷ es) (e ∷ put R k n es)) m ≡ (if n == m then Some k else key_with (e ∷ es) m)) [
         | Less ↦ λ _. refl
-        | Equal ↦ λ q. absurd (some_none e.1 (ap (λ r. cond (is_eq r) (Some e.1) (find R k es)) (sym q) ∙ none))
+        | Equal ↦ λ q. absurd (none-some e.1 (sym (ap (λ r. cond (is_eq r) (Some e.1) (find R k es)) (sym q) ∙ none)))
         | Greater ↦ λ q.
             ap (λ rest. if e.1 == m then Some e.0 else rest) (key_with-put k n m es (ap (λ r. cond (is_eq r) (Some e.1) (find R k es)) (sym q) ∙ none) (free_rest e es n free))
             ∙ swapped (e.1 == m) (n == m) (Some e.0) (Some k) (key_with es m) (λ a b. free_first e es n free (both_are e.1 n m a b))
@@ -76,20 +74,20 @@ module _ {K : Type 0} (R : K → K → Ordering) where
             less n = grind (arith, nat_tests)
 
         step : (n m : ℕ) → (if n == m then Some k else (if nat_lt m (suc n) then None else slice_get ks (m - suc n))) ≡ (if nat_lt m n then None else slice_get (k ∷ ks) (m - n))
-        step n m = by (split n m) (split m n)
+        step n m = by (cases_lt m n) (cases_lt n m)
           where
-            by : (n ≤ m) ⊎ (m < n) → (m ≤ n) ⊎ (n < m) → (if n == m then Some k else (if nat_lt m (suc n) then None else slice_get ks (m - suc n))) ≡ (if nat_lt m n then None else slice_get (k ∷ ks) (m - n))
-            by (inr less) q =
+            by : (m < n) ⊎ (n ≤ m) → (n < m) ⊎ (m ≤ n) → (if n == m then Some k else (if nat_lt m (suc n) then None else slice_get ks (m - suc n))) ≡ (if nat_lt m n then None else slice_get (k ∷ ks) (m - n))
+            by (inl less) q =
                 let a : (n == m) ≡ false = grind (arith, nat_tests, less) in
                 let b : nat_lt m (suc n) ≡ true = grind (arith, nat_tests, less) in
                 let c : nat_lt m n ≡ true = grind (arith, nat_tests, less) in
                 (λ i. if a i then Some k else (if b i then None else slice_get ks (m - suc n))) ∙ sym (ap (λ x. if x then None else slice_get (k ∷ ks) (m - n)) c)
-            by (inl le) (inl ge) =
+            by (inr le) (inr ge) =
                 let a : (n == m) ≡ true = grind (arith, nat_tests, le, ge) in
                 let c : nat_lt m n ≡ false = grind (arith, nat_tests, le, ge) in
                 let z : m - n ≡ 0 = omega (arith, le, ge) in
                 ap (λ x. if x then Some k else (if nat_lt m (suc n) then None else slice_get ks (m - suc n))) a ∙ sym (λ i. if c i then None else slice_get (k ∷ ks) (z i))
-            by (inl le) (inr more) =
+            by (inr le) (inl more) =
                 let a : (n == m) ≡ false = grind (arith, nat_tests, more) in
                 let b : nat_lt m (suc n) ≡ false = grind (arith, nat_tests, more) in
                 let c : nat_lt m n ≡ false = grind (arith, nat_tests, more) in

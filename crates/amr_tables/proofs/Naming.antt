@@ -11,6 +11,7 @@ use Rattle.std.specs.FinMap.Entries.{below_all}
 use Rattle.std.proofs.lemmas.Bool.Decides.{nat_tests}
 use Rattle.std.proofs.lemmas.Cmp.{tied_itself}
 use Rattle.std.proofs.lemmas.Map.Views.{tells_apart}
+use Rattle.std.proofs.lemmas.Option.{same_Some}
 use Rattle.amr_tables.specs.Numbered.{Numbered, IsNumbering, number_of, key_with, key_at}
 
 less_is : (o : Ordering) → T (is_lt o) → o ≡ Less
@@ -29,9 +30,6 @@ second false b p = absurd p
 holds : (b : _) → T b → b ≡ true
 holds true p = refl
 holds false p = absurd p
-
-some_is : (a b : ℕ) → Some a ≡ Some b → a ≡ b
-some_is a b e = cc
 
 module _ {K : Type 0} {R : K → K → Ordering} (o : IsTotalOrder R) where
   later : (e : K × ℕ) (es fs : List (K × ℕ)) → T (below_all R e.0 fs) → AllByRecursion (λ f. find R f.0 es ≡ Some f.1) fs → AllByRecursion (λ f. find R f.0 (e ∷ es) ≡ Some f.1) fs
@@ -55,7 +53,7 @@ module _ {K : Type 0} {R : K → K → Ordering} (o : IsTotalOrder R) where
         | true ↦ λ t. let same : e.1 ≡ n = grind (arith, nat_tests) in ap (λ k. Some k) (alone.0 same)
         | false ↦ λ f. only es k n alone.1 (
             elim (eq_by_cmp R k e.0) as (λ b. cond b (Some e.1) (find R k es) ≡ Some n → find R k es ≡ Some n) [
-              | true ↦ λ h. let same : e.1 ≡ n = some_is e.1 n h in absurd (grind (arith, nat_tests))
+              | true ↦ λ h. let same : e.1 ≡ n = same_Some e.1 n h in absurd (grind (arith, nat_tests))
               | false ↦ λ h. h
             ] h)
       ] refl

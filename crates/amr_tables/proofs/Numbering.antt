@@ -1,6 +1,6 @@
 -- What a numbering of keys shows, and how it changes.
-use Rattle.std.proofs.Common.{◌≡◌, ℕ, zero, suc, ◌+◌, ◌<◌, ◌≤◌, Bool, true, false, cond, T, List, [], ◌∷◌, ◌++◌, Option, None, Some, length, refl, sym, ap, subst, ◌∙◌, arith, slice_set, is_some, IsTrue, map}
-use Rattle.std.specs.Prelude.{option_map, option_and_then, unwrap_or, ◌||◌}
+use Rattle.std.proofs.Common.{◌≡◌, ℕ, zero, suc, ◌+◌, ◌<◌, ◌≤◌, Bool, true, false, cond, T, List, [], ◌∷◌, ◌++◌, Option, None, Some, length, length-set, refl, sym, ap, subst, ◌∙◌, arith, slice_set, is_some, IsTrue, map}
+use Rattle.std.specs.Prelude.{option_map, option_and_then, ◌||◌}
 use Rattle.std.specs.Option.{option_or, option_map_or}
 use Rattle.std.specs.List.{filter_map, cons_option}
 use Rattle.std.specs.declared.cmp.Ordering.{Ordering}
@@ -10,11 +10,12 @@ use Rattle.std.specs.Cmp.{IsTotalOrder, eq_by_cmp_equiv, tied_itself}
 use Rattle.std.specs.FinMap.{find, put, is_sorted, IsAntisymmetric}
 use Rattle.std.specs.FinMap.Entries.{below_all, by_order, find-put, is_sorted-put, find_tied, length-put}
 use Rattle.std.proofs.lemmas.Bool.{true≢false}
+use Rattle.std.proofs.lemmas.Option.{none-some, same_Some}
 use Rattle.amr_labels.proofs.Sorted.{both, first, second, less}
 use Rattle.amr_labels.specs.Map.{from_sorted, entries, get, empty, same_map, same_entries_map, entries-from_sorted, get-entries, get-set}
 use Rattle.amr_labels.specs.Map as map
 use Rattle.amr_tables.specs.Places.{Places, value_at, is_marked}
-use Rattle.amr_tables.proofs.Placing.{value_set, value_apart, value_past, value_push, length-slice_set, length-push}
+use Rattle.amr_tables.proofs.Placing.{value_set, value_apart, value_past, value_push, length-push}
 use Rattle.amr_tables.specs.Numbered.{Numbered, entry_at, has_place, is_entered, map_of, IsNumbering}
 
 either_way : {A : Type 0} (b : Bool) (x : A) → x ≡ cond b x x
@@ -29,9 +30,6 @@ is_equal : (r : Ordering) → T (is_eq r) → r ≡ Equal
 is_equal Less p = absurd p
 is_equal Equal p = refl
 is_equal Greater p = absurd p
-
-same_value : {A : Type 0} (x y : A) → Some x ≡ Some y → x ≡ y
-same_value x y e = ap (λ o. unwrap_or o x) e
 
 module _ {K V : Type 0} (R : K → K → Ordering) where
   find-cons : (q k : K) (o : Option V) (rest : List (K × V)) → find R q (cons_option (option_map (λ v. (k, v)) o) rest) ≡ cond (eq_by_cmp R q k) (option_or o (find R q rest)) (find R q rest)
@@ -144,9 +142,6 @@ length-none : (marks : List Bool) → length (map {B = Bool} (λ _. false) marks
 length-none [] = refl
 length-none (y ∷ marks) = ap suc (length-none marks)
 
-some_is_none : {A : Type 0} (x : A) → Some x ≡ None → ⊥
-some_is_none x e = cc
-
 some_either : (b : Bool) (n : ℕ) (p : Option ℕ) → is_some (cond b (Some n) p) ≡ (b || is_some p)
 some_either true n p = refl
 some_either false n p = refl
@@ -161,7 +156,7 @@ filter_map-put R f k n [] none is = ap (λ x. cons_option x []) none
 filter_map-put R f k n (e ∷ es) none is =
     elim (R k e.0) as (λ r. R k e.0 ≡ r → cond (is_eq r) (Some e.1) (find R k es) ≡ None → filter_map f (by_order r ((k, n) ∷ e ∷ es) ((e.0, n) ∷ es) (e ∷ put R k n es)) ≡ filter_map f (e ∷ es)) [
       | Less ↦ λ p h. ap (λ x. cons_option x (filter_map f (e ∷ es))) none
-      | Equal ↦ λ p h. absurd (some_is_none e.1 h)
+      | Equal ↦ λ p h. absurd (none-some e.1 (sym h))
       | Greater ↦ λ p h. ap (cons_option (f e)) (filter_map-put R f k n es none h)
     ] refl is
 
@@ -172,7 +167,7 @@ filter_map-same f g (x ∷ xs) h = λ i. cons_option (h x i) (filter_map-same f 
 module _ {K V : Type 0} {R : K → K → Ordering} (o : IsTotalOrder R) where
   pub displaced_is : (t : Numbered K V) (n : ℕ) (v : Option V) → IsNumbering R t → IsNumbering R (record t { cells = slice_set t.cells n v })
   displaced_is t n v is =
-      let same = length-slice_set t.cells n v in record {
+      let same = length-set t.cells n v in record {
         sorted = is.sorted;
         within = λ key m e. let h = is.within key m e in omega arith;
         apart = is.apart;
@@ -190,7 +185,7 @@ module _ {K V : Type 0} {R : K → K → Ordering} (o : IsTotalOrder R) where
 
   pub marked_is : (t : Numbered K V) (n : ℕ) → n < length t.cells → IsNumbering R t → IsNumbering R (record t { marks = slice_set t.marks n true })
   marked_is t n lt is =
-      let same = length-slice_set t.marks n true in record {
+      let same = length-set t.marks n true in record {
         sorted = is.sorted;
         within = is.within;
         apart = is.apart;
@@ -255,20 +250,20 @@ module _ {K V : Type 0} {R : K → K → Ordering} (o : IsTotalOrder R) where
       let put_at = λ (q : K). find-put R o q k n t.numbers in record {
         sorted = is_sorted-put R o k n t.numbers is.sorted;
         within = λ key m e. elim (eq_by_cmp R key k) as (λ b. eq_by_cmp R key k ≡ b → m < length t.cells) [
-          | true ↦ λ b. let j : n ≡ m = same_value n m (sym (put_at key ∙ ap (λ x. cond x (Some n) (find R key t.numbers)) b) ∙ e) in omega arith
+          | true ↦ λ b. let j : n ≡ m = same_Some n m (sym (put_at key ∙ ap (λ x. cond x (Some n) (find R key t.numbers)) b) ∙ e) in omega arith
           | false ↦ λ b. is.within key m (sym (put_at key ∙ ap (λ x. cond x (Some n) (find R key t.numbers)) b) ∙ e)
         ] refl;
         apart = λ key other m e f. elim (eq_by_cmp R key k) as (λ b. eq_by_cmp R key k ≡ b → T (eq_by_cmp R other key)) [
           | true ↦ λ b. elim (eq_by_cmp R other k) as (λ d. eq_by_cmp R other k ≡ d → T (eq_by_cmp R other key)) [
             | true ↦ λ d. holds ((eq_by_cmp_equiv o).congr other k key d ∙ (eq_by_cmp_equiv o).symm k key ∙ b)
             | false ↦ λ d.
-                let j : n ≡ m = same_value n m (sym (put_at key ∙ ap (λ x. cond x (Some n) (find R key t.numbers)) b) ∙ e) in
+                let j : n ≡ m = same_Some n m (sym (put_at key ∙ ap (λ x. cond x (Some n) (find R key t.numbers)) b) ∙ e) in
                 let w = fresh other m (sym (put_at other ∙ ap (λ x. cond x (Some n) (find R other t.numbers)) d) ∙ f) in
                 absurd (omega arith)
           ] refl
           | false ↦ λ b. elim (eq_by_cmp R other k) as (λ d. eq_by_cmp R other k ≡ d → T (eq_by_cmp R other key)) [
             | true ↦ λ d.
-                let j : n ≡ m = same_value n m (sym (put_at other ∙ ap (λ x. cond x (Some n) (find R other t.numbers)) d) ∙ f) in
+                let j : n ≡ m = same_Some n m (sym (put_at other ∙ ap (λ x. cond x (Some n) (find R other t.numbers)) d) ∙ f) in
                 let w = fresh key m (sym (put_at key ∙ ap (λ x. cond x (Some n) (find R key t.numbers)) b) ∙ e) in
                 absurd (omega arith)
             | false ↦ λ d. is.apart key other m (sym (put_at key ∙ ap (λ x. cond x (Some n) (find R key t.numbers)) b) ∙ e) (sym (put_at other ∙ ap (λ x. cond x (Some n) (find R other t.numbers)) d) ∙ f)

@@ -21,11 +21,6 @@ value_past [] n h = refl
 value_past (c ∷ cells) zero h = absurd (omega arith)
 value_past (c ∷ cells) (suc n) h = value_past cells n (omega arith)
 
-pub length-slice_set : {A : Type 0} (xs : List A) (n : ℕ) (x : A) → length (slice_set xs n x) ≡ length xs
-length-slice_set [] n x = refl
-length-slice_set (y ∷ xs) zero x = refl
-length-slice_set (y ∷ xs) (suc n) x = ap suc (length-slice_set xs n x)
-
 pub length-push : {A : Type 0} (xs : List A) (x : A) → length (xs ++ x ∷ []) ≡ suc (length xs)
 length-push [] x = refl
 length-push (y ∷ xs) x = ap suc (length-push xs x)

@@ -1,6 +1,7 @@
 -- A tournament of numbers by their moments: who wins it, and what a new moment changes.
-use Rattle.std.proofs.Common.{◌≡◌, ◌≢◌, inl, inr, ℕ, suc, zero, ◌+◌, ◌-◌, ◌*◌, ◌/◌, ◌%◌, ◌<◌, ◌≤◌, Bool, true, false, nat_lt, List, [], ◌∷◌, Option, Some, None, length, get_or, slice_set, refl, sym, ap, subst, ◌∙◌, arith}
+use Rattle.std.proofs.Common.{◌≡◌, ◌≢◌, inl, inr, ℕ, suc, zero, ◌+◌, ◌-◌, ◌*◌, ◌/◌, ◌%◌, ◌<◌, ◌≤◌, Bool, true, false, nat_lt, Option, Some, None, length, get_or, slice_set, refl, sym, ap, subst, ◌∙◌, arith}
 use Rattle.std.specs.Prelude.{if◌then◌else◌, ◌⊎◌}
+use Rattle.std.proofs.lemmas.Bool.{cases_lt, cases_eq}
 use Rattle.std.proofs.lemmas.Bool.Decides.{nat_tests}
 use Rattle.std.proofs.lemmas.List.{get_or-set_same, get_or-set_other}
 use Rattle.std.proofs.Math.Nat.{div-add-mod, mod-lt}
@@ -10,29 +11,10 @@ use Rattle.std.specs.Ordering.{nat_cmp, ordering_then, ordering_reverse, is_lt, 
 use Rattle.std.specs.Cmp.{IsTotalOrder, nat_cmp_total}
 use Rattle.std.proofs.lemmas.Cmp.{on_total, then_total}
 use Rattle.std.proofs.lemmas.Map.Lookups.{exact_unsigned}
+use Rattle.std.proofs.lemmas.Option.{none-some}
 use Rattle.amr_tables.specs.Places.{value_at}
 use Rattle.amr_tables.specs.Tournament.{Tournament, moment_at, timer_at, winner_at, timer_cmp, later_winner, IsTournament, AgreeOn}
-
-pub split : (a b : ℕ) → (a ≤ b) ⊎ (b < a)
-split zero b = inl (omega arith)
-split (suc a) zero = inr (omega arith)
-split (suc a) (suc b) = raised (split a b)
-  where
-    raised : (a ≤ b) ⊎ (b < a) → (suc a ≤ suc b) ⊎ (suc b < suc a)
-    raised (inl h) = inl (omega (arith, h))
-    raised (inr h) = inr (omega (arith, h))
-
-past : (ms : List (Option ℕ)) (n : ℕ) → length ms ≤ n → value_at ms n ≡ None
-past [] n h = refl
-past (m ∷ ms) zero h = absurd (omega (arith, h))
-past (m ∷ ms) (suc n) h = past ms n (omega (arith, h))
-
-value_at-other : (ms : List (Option ℕ)) (n a : ℕ) (m : Option ℕ) → a ≢ n → value_at (slice_set ms n m) a ≡ value_at ms a
-value_at-other [] n a m apart = refl
-value_at-other (x ∷ ms) zero zero m apart = absurd (apart refl)
-value_at-other (x ∷ ms) zero (suc a) m apart = refl
-value_at-other (x ∷ ms) (suc n) zero m apart = refl
-value_at-other (x ∷ ms) (suc n) (suc a) m apart = value_at-other ms n a m (λ e. apart (ap suc e))
+use Rattle.amr_tables.proofs.Placing.{value_apart, value_past}
 
 -- ---- the order of timers
 
@@ -137,6 +119,9 @@ halves n = parity n (n / 2) (n % 2) (mod-lt n (omega arith)) (div-add-mod n 2)
 
 -- ---- who wins
 
+own_node : (t : Tournament) (n : ℕ) → winner_at t (length t.moments + n) ≡ n
+own_node t n = grind (arith, nat_tests)
+
 module _ (rank : ℕ → ℕ → Ordering) (t : Tournament) where
   abbrev cmp : ℕ → ℕ → Ordering
   cmp a b = timer_cmp rank (timer_at t a) (timer_at t b)
@@ -178,36 +163,30 @@ module _ (rank : ℕ → ℕ → Ordering) (t : Tournament) where
             let small : q < length t.moments = omega (arith, e, inner) in
             step (q * 2 + 1) (first less some (omega (arith, small))) (beats q some small).1 e
 
-    leaf : (n : ℕ) → winner_at t (length t.moments + n) ≡ n
-    leaf n = grind (arith, nat_tests)
-
     first_of_all : (n : ℕ) → n < length t.moments → is_gt (cmp (winner_at t 1) n) ≡ false
     first_of_all n within =
-        subst (λ x. is_gt (cmp (winner_at t 1) x) ≡ false) (leaf n)
+        subst (λ x. is_gt (cmp (winner_at t 1) x) ≡ false) (own_node t n)
         (first_of (length t.moments + n) (length t.moments + n) (omega arith) (omega (arith, within)) (omega (arith, within)))
 
     -- a winner that has a moment is not after any other number
     pub winner_first : (moment other x : ℕ) → moment_at t (winner_at t 1) ≡ Some moment → moment_at t other ≡ Some x → is_gt (timer_cmp rank (Some moment, winner_at t 1) (Some x, other)) ≡ false
-    winner_first moment other x is at = by (split (length t.moments) other)
+    winner_first moment other x is at = by (cases_lt other (length t.moments))
       where
-        some_or_none : None ≡ Some x → ⊥
-        some_or_none e = cc
-
-        by : (length t.moments ≤ other) ⊎ (other < length t.moments) → is_gt (timer_cmp rank (Some moment, winner_at t 1) (Some x, other)) ≡ false
-        by (inl late) = absurd (some_or_none (sym (past t.moments other late) ∙ at))
-        by (inr within) = subst (λ (p : Option ℕ × Option ℕ). is_gt (timer_cmp rank (p.0, winner_at t 1) (p.1, other)) ≡ false) (λ i. (is i, at i)) (first_of_all other within)
+        by : (other < length t.moments) ⊎ (length t.moments ≤ other) → is_gt (timer_cmp rank (Some moment, winner_at t 1) (Some x, other)) ≡ false
+        by (inr late) = absurd (none-some x (sym (value_past t.moments other late) ∙ at))
+        by (inl within) = subst (λ (p : Option ℕ × Option ℕ). is_gt (timer_cmp rank (p.0, winner_at t 1) (p.1, other)) ≡ false) (λ i. (is i, at i)) (first_of_all other within)
 
     -- a winner without a moment has beaten none that has one
     pub none_earlier : moment_at t (winner_at t 1) ≡ None → (n : ℕ) → moment_at t n ≡ None
-    none_earlier none n = of_any (split (length t.moments) n)
+    none_earlier none n = of_any (cases_lt n (length t.moments))
       where
         from : (m : Option ℕ) → is_gt (timer_cmp rank (None, winner_at t 1) (m, n)) ≡ false → m ≡ None
         from None h = refl
         from (Some m) h = cc
 
-        of_any : (length t.moments ≤ n) ⊎ (n < length t.moments) → moment_at t n ≡ None
-        of_any (inl late) = past t.moments n late
-        of_any (inr within) = from (moment_at t n) (subst (λ x. is_gt (timer_cmp rank (x, winner_at t 1) (timer_at t n)) ≡ false) none (first_of_all n within))
+        of_any : (n < length t.moments) ⊎ (length t.moments ≤ n) → moment_at t n ≡ None
+        of_any (inr late) = value_past t.moments n late
+        of_any (inl within) = from (moment_at t n) (subst (λ x. is_gt (timer_cmp rank (x, winner_at t 1) (timer_at t n)) ≡ false) none (first_of_all n within))
 
 -- ---- what a new winner changes
 
@@ -255,9 +234,6 @@ pub record IsClimbed (rank : ℕ → ℕ → Ordering) (n : ℕ) (t u : Tourname
   pub played : (j : ℕ) → 1 ≤ j → j < length t.moments → node < j * 2 → winner_at u j ≡ later_winner rank u j
 
 module _ (rank : ℕ → ℕ → Ordering) (t : Tournament) (played : IsTournament rank t) where
-  own_node : (n : ℕ) → winner_at t (length t.moments + n) ≡ n
-  own_node n = grind (arith, nat_tests)
-
   at_own_node : (p n : ℕ) → length t.moments ≤ p → winner_at t p ≡ n → p ≡ length t.moments + n
   at_own_node p n past wins = grind (arith, nat_tests)
 
@@ -269,7 +245,7 @@ module _ (rank : ℕ → ℕ → Ordering) (t : Tournament) (played : IsTourname
   wins_before : (fuel p n : ℕ) → length t.moments ≤ p + fuel → 1 ≤ p → winner_at t p ≡ n → (p ≡ length t.moments + n) ⊎ (p * 2 ≤ length t.moments + n)
   wins_before zero p n within one wins = inl (at_own_node p n (omega (arith, within)) wins)
   wins_before (suc fuel) p n within one wins =
-      by_node (split (length t.moments) p)
+      by_node (cases_lt p (length t.moments))
       (λ is. wins_before fuel (p * 2) n (omega (arith, within, one)) (omega (arith, one)) is)
       (λ is. wins_before fuel (p * 2 + 1) n (omega (arith, within, one)) (omega (arith, one)) is)
     where
@@ -277,12 +253,12 @@ module _ (rank : ℕ → ℕ → Ordering) (t : Tournament) (played : IsTourname
       raised c less (inl is) = inr (omega (arith, less, is))
       raised c less (inr is) = inr (omega (arith, less, is))
 
-      by_node : (length t.moments ≤ p) ⊎ (p < length t.moments)
+      by_node : (p < length t.moments) ⊎ (length t.moments ≤ p)
           → (winner_at t (p * 2) ≡ n → (p * 2 ≡ length t.moments + n) ⊎ (p * 2 * 2 ≤ length t.moments + n))
           → (winner_at t (p * 2 + 1) ≡ n → (p * 2 + 1 ≡ length t.moments + n) ⊎ ((p * 2 + 1) * 2 ≤ length t.moments + n))
           → (p ≡ length t.moments + n) ⊎ (p * 2 ≤ length t.moments + n)
-      by_node (inl past) left right = inl (at_own_node p n past wins)
-      by_node (inr inner) left right = by_side (one_of (winner_at t (p * 2)) (winner_at t (p * 2 + 1)) (winner_at t p) _ (played p one inner))
+      by_node (inr past) left right = inl (at_own_node p n past wins)
+      by_node (inl inner) left right = by_side (one_of (winner_at t (p * 2)) (winner_at t (p * 2 + 1)) (winner_at t p) _ (played p one inner))
         where
           by_side : (winner_at t (p * 2) ≡ winner_at t p) ⊎ (winner_at t (p * 2 + 1) ≡ winner_at t p) → (p ≡ length t.moments + n) ⊎ (p * 2 ≤ length t.moments + n)
           by_side (inl is) = raised (p * 2) (omega arith) (left (is ∙ wins))
@@ -298,7 +274,7 @@ module _ (rank : ℕ → ℕ → Ordering) (t : Tournament) (played : IsTourname
     alike : (p : ℕ) → winner_at changed p ≢ n → timer_at changed (winner_at changed p) ≡ timer_at t (winner_at t p)
     alike p apart =
         ap (timer_at changed) (as_before p)
-        ∙ (λ i. (value_at-other t.moments n (winner_at t p) moment (λ e. apart (as_before p ∙ e)) i, winner_at t p))
+        ∙ (λ i. (value_apart t.moments n (winner_at t p) moment (λ e. apart (as_before p ∙ e)) i, winner_at t p))
 
     stands : (j : ℕ) → 1 ≤ j → j < length t.moments → winner_at changed (j * 2) ≢ n → winner_at changed (j * 2 + 1) ≢ n → winner_at changed j ≡ later_winner rank changed j
     stands j one inner left right =
@@ -320,7 +296,7 @@ module _ (rank : ℕ → ℕ → Ordering) (t : Tournament) (played : IsTourname
     begun = record {
       either = λ j one inner. sides j (one_of (winner_at t (j * 2)) (winner_at t (j * 2 + 1)) (winner_at t j) _ (played j one (subst (λ l. j < l) len inner)));
       stand = λ j one inner left right. stands j one (subst (λ l. j < l) len inner) left right;
-      won = λ j one less wins. (as_before (length t.moments + n) ∙ own_node n, won_before j one wins);
+      won = λ j one less wins. (as_before (length t.moments + n) ∙ own_node t n, won_before j one wins);
       same = λ j less apart. refl;
       played = λ j one inner late. stands j one (subst (λ l. j < l) len inner) (not_won (j * 2) (omega (arith, one)) late) (not_won (j * 2 + 1) (omega (arith, one)) (omega (arith, late)));
     }
@@ -328,15 +304,6 @@ module _ (rank : ℕ → ℕ → Ordering) (t : Tournament) (played : IsTourname
         sides : (j : ℕ) → (winner_at t (j * 2) ≡ winner_at t j) ⊎ (winner_at t (j * 2 + 1) ≡ winner_at t j) → (winner_at changed (j * 2) ≡ winner_at changed j) ⊎ (winner_at changed (j * 2 + 1) ≡ winner_at changed j)
         sides j (inl is) = inl (as_before (j * 2) ∙ is ∙ sym (as_before j))
         sides j (inr is) = inr (as_before (j * 2 + 1) ∙ is ∙ sym (as_before j))
-
--- the two are equal, or not
-pub same_or_apart : (a b : ℕ) → (a ≡ b) ⊎ (a ≢ b)
-same_or_apart a b = from (split a b) (split b a)
-  where
-    from : (a ≤ b) ⊎ (b < a) → (b ≤ a) ⊎ (a < b) → (a ≡ b) ⊎ (a ≢ b)
-    from (inl h) (inl k) = inl (omega (arith, h, k))
-    from (inr h) q = inr (λ e. absurd (omega (arith, h, e)))
-    from (inl h) (inr k) = inr (λ e. absurd (omega (arith, k, e)))
 
 module _ (rank : ℕ → ℕ → Ordering) (t u : Tournament) (node : ℕ) (is : u ≡ record t { winners = slice_set t.winners node (later_winner rank t node) })
     (one : 1 ≤ node) (inner : node < length t.moments) (nodes : length t.winners ≡ length t.moments) where
@@ -350,7 +317,7 @@ module _ (rank : ℕ → ℕ → Ordering) (t u : Tournament) (node : ℕ) (is :
   -- after the last nodes a node was played
   pub played_from : ((j : ℕ) → 1 ≤ j → node < j → j < length t.moments → winner_at t j ≡ later_winner rank t j)
       → (j : ℕ) → 1 ≤ j → node ≤ j → j < length u.moments → winner_at u j ≡ later_winner rank u j
-  played_from played j some from within = moved j (by (same_or_apart j node))
+  played_from played j some from within = moved j (by (cases_eq j node))
     where
       by : (j ≡ node) ⊎ (j ≢ node) → winner_at (record t { winners = slice_set t.winners node (later_winner rank t node) }) j ≡ later_winner rank (record t { winners = slice_set t.winners node (later_winner rank t node) }) j
       by (inl e) = subst (λ x. winner_at (record t { winners = slice_set t.winners node (later_winner rank t node) }) x ≡ later_winner rank (record t { winners = slice_set t.winners node (later_winner rank t node) }) x) (sym e) (played_here rank t node one inner nodes)
@@ -370,13 +337,13 @@ module _ (rank : ℕ → ℕ → Ordering) (n : ℕ) (t u : Tournament) (node : 
 
   -- another number wins this node as before, so all matches above stand
   pub stopped : winner_at u node ≡ winner_at t node → winner_at u node ≢ n → IsTournament rank u
-  stopped as_was apart j one inner = by (split (j * 2) node)
+  stopped as_was apart j one inner = by (cases_lt node (j * 2))
     where
       within : j < length t.moments
       within = subst (λ ms. j < length ms) moments inner
 
       kept : (c : ℕ) → c < node * 2 → winner_at u c ≡ winner_at t c
-      kept c less = from (same_or_apart c node)
+      kept c less = from (cases_eq c node)
         where
           from : (c ≡ node) ⊎ (c ≢ node) → winner_at u c ≡ winner_at t c
           from (inl is) = subst (λ x. winner_at u x ≡ winner_at t x) (sym is) as_was
@@ -385,9 +352,9 @@ module _ (rank : ℕ → ℕ → Ordering) (n : ℕ) (t u : Tournament) (node : 
       other : (c : ℕ) → 1 ≤ c → c < node * 2 → winner_at t c ≢ n
       other c some less wins = apart (as_was ∙ (climbed.won c some less wins).0)
 
-      by : (j * 2 ≤ node) ⊎ (node < j * 2) → winner_at u j ≡ later_winner rank u j
-      by (inr late) = climbed.played j one within late
-      by (inl above) =
+      by : (node < j * 2) ⊎ (j * 2 ≤ node) → winner_at u j ≡ later_winner rank u j
+      by (inl late) = climbed.played j one within late
+      by (inr above) =
           left u moments j one within (kept j (omega (arith, above, one))) (kept (j * 2) (omega (arith, above, one))) (kept (j * 2 + 1) (omega (arith, above, one)))
           (other (j * 2) (omega (arith, one)) (omega (arith, above, one))) (other (j * 2 + 1) (omega arith) (omega (arith, above, one)))
 
@@ -422,7 +389,7 @@ module _ (rank : ℕ → ℕ → Ordering) (n : ℕ) (t u : Tournament) (node : 
         let most = at_half j some less wins in
         here j (omega (arith, within, most)) wins
     won_half (suc fuel) j within some less wins =
-        by (same_or_apart j (node / 2))
+        by (cases_eq j (node / 2))
         (λ small is. (won_half fuel (j * 2) (omega (arith, within, some)) (omega (arith, some)) (omega (arith, small)) is).0)
         (λ small is. (won_half fuel (j * 2 + 1) (omega (arith, within, some)) (omega arith) (omega (arith, small)) is).0)
       where
@@ -454,15 +421,15 @@ module _ (rank : ℕ → ℕ → Ordering) (n : ℕ) (t u : Tournament) (node : 
         ∙ climbed.same j (omega (arith, less, low)) (λ e. absurd (omega (arith, e, less, low)))
 
     played_half : (j : ℕ) → 1 ≤ j → j < length t.moments → node / 2 < j * 2 → winner_at half_played j ≡ later_winner rank half_played j
-    played_half j some within late = by (same_or_apart j (node / 2)) (split (j * 2) node)
+    played_half j some within late = by (cases_eq j (node / 2)) (cases_lt node (j * 2))
       where
-        by : (j ≡ node / 2) ⊎ (j ≢ node / 2) → (j * 2 ≤ node) ⊎ (node < j * 2) → winner_at half_played j ≡ later_winner rank half_played j
+        by : (j ≡ node / 2) ⊎ (j ≢ node / 2) → (node < j * 2) ⊎ (j * 2 ≤ node) → winner_at half_played j ≡ later_winner rank half_played j
         by (inl e) where_is =
             subst (λ x. winner_at half_played x ≡ later_winner rank half_played x) (sym e)
             (played_here rank u (node / 2) one (subst (λ ms. node / 2 < length ms) (sym moments) inner) nodes)
-        by (inr apart) (inr after) =
+        by (inr apart) (inl after) =
             played_there rank u (node / 2) (later_winner rank u (node / 2)) j apart (λ e. absurd (omega (arith, e, late))) (λ e. absurd (omega (arith, e, late))) (climbed.played j some within after)
-        by (inr apart) (inl before) =
+        by (inr apart) (inr before) =
             let less : j < node / 2 = grind (arith, before, high, apart) in
             left half_played moments j some within (same_half j (omega (arith, less)) apart)
             (same_half (j * 2) (omega (arith, less)) (λ e. absurd (omega (arith, e, late)))) (same_half (j * 2 + 1) (omega (arith, less)) (λ e. absurd (omega (arith, e, late))))
@@ -478,11 +445,6 @@ module _ (rank : ℕ → ℕ → Ordering) (n : ℕ) (t u : Tournament) (node : 
       same = same_half;
       played = played_half;
     })
-
-pub length_set : {A : Type 0} (xs : List A) (n : ℕ) (x : A) → length (slice_set xs n x) ≡ length xs
-length_set [] n x = refl
-length_set (y ∷ xs) zero x = refl
-length_set (y ∷ xs) (suc n) x = ap suc (length_set xs n x)
 
 -- the half of a node after the first is a node, and an inner one
 pub half_bounds : (node n : ℕ) → 1 < node → node < n + n → (1 ≤ node / 2) × (node / 2 < n)

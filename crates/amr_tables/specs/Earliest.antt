@@ -4,14 +4,14 @@ use Rattle.std.specs.declared.cmp.Ordering.{Ordering}
 use Rattle.std.specs.declared.cmp.Ordering.TheVariants.{Greater}
 use Rattle.std.specs.Ordering.{is_gt}
 use Rattle.amr_tables.specs.Places.{value_at}
-use Rattle.amr_tables.specs.declared.earliest.Turn.{Turn}
+use Rattle.amr_tables.specs.declared.earliest.NumberedMoment.{NumberedMoment}
 use Rattle.amr_tables.specs.Tournament.{Tournament, timer_cmp, first_of, IsTournament}
 use Rattle.amr_tables.specs.Tournament as tournament
 
 -- The moment of each number, if it has one. Each such moment stands in the queue, or among the rest.
 pub record Earliest : Type 0 where
   pub moments : List (Option ℕ)
-  pub queue : List Turn
+  pub queue : List NumberedMoment
   pub rest : Tournament
 
 -- the moment of a number, if it has one
@@ -19,29 +19,29 @@ abbrev pub moment_at : Earliest → ℕ → Option ℕ
 moment_at e n = value_at e.moments n
 
 -- a moment of a number stands in a queue
-abbrev pub StandsIn : List Turn → Turn → Type 0
-StandsIn [] w = ⊥
-StandsIn (first ∷ queue) w = (first ≡ w) ⊎ StandsIn queue w
+abbrev pub StandsIn : List NumberedMoment → NumberedMoment → Type 0
+StandsIn [] s = ⊥
+StandsIn (first ∷ queue) s = (first ≡ s) ⊎ StandsIn queue s
 
 -- a moment of a number stands in the queue or among the rest
-abbrev pub Stands : Earliest → Turn → Type 0
-Stands e w = StandsIn e.queue w ⊎ (tournament.moment_at e.rest w.number ≡ Some w.moment)
+abbrev pub Stands : Earliest → NumberedMoment → Type 0
+Stands e s = StandsIn e.queue s ⊎ (tournament.moment_at e.rest s.number ≡ Some s.moment)
 
 -- the number has a moment, or had one that still stands
 abbrev pub IsHeld : Earliest → ℕ → Type 0
 IsHeld e n = (m : ℕ) × Stands e (record { moment = m; number = n })
 
 -- the number still has this moment
-abbrev pub IsCurrent : Earliest → Turn → Type 0
-IsCurrent e w = moment_at e w.number ≡ Some w.moment
+abbrev pub IsCurrent : Earliest → NumberedMoment → Type 0
+IsCurrent e s = moment_at e s.number ≡ Some s.moment
 
 -- there is a moment that the number doesn't have any more
-abbrev pub IsOutdated : Earliest → Option Turn → Type 0
+abbrev pub IsOutdated : Earliest → Option NumberedMoment → Type 0
 IsOutdated e None = ⊥
-IsOutdated e (Some w) = IsCurrent e w → ⊥
+IsOutdated e (Some s) = IsCurrent e s → ⊥
 
 -- the first of the queue is current
-abbrev pub IsFrontCurrent : Earliest → List Turn → Type 0
+abbrev pub IsFrontCurrent : Earliest → List NumberedMoment → Type 0
 IsFrontCurrent e [] = Unit {0}
 IsFrontCurrent e (first ∷ queue) = IsCurrent e first
 
@@ -51,25 +51,25 @@ IsWinnerCurrent e = (n : ℕ) → first_of e.rest ≡ Some n → tournament.mome
 
 module _ (rank : ℕ → ℕ → Ordering) where
   -- the first isn't later and, if both are of one moment, isn't put after the second
-  abbrev pub is_in_order : Turn → Turn → Bool
+  abbrev pub is_in_order : NumberedMoment → NumberedMoment → Bool
   is_in_order a b = not (is_gt (timer_cmp rank (Some a.moment, a.number) (Some b.moment, b.number)))
 
-  abbrev pub are_in_order : Option Turn → Option Turn → Bool
+  abbrev pub are_in_order : Option NumberedMoment → Option NumberedMoment → Bool
   are_in_order (Some a) (Some b) = is_in_order a b
   are_in_order (Some a) None = true
   are_in_order None b = true
 
   -- each moment of a queue is in order with the next
-  abbrev pub IsQueue : List Turn → Type 0
+  abbrev pub IsQueue : List NumberedMoment → Type 0
   IsQueue [] = Unit {0}
-  IsQueue (w ∷ []) = Unit {0}
-  IsQueue (w ∷ x ∷ queue) = (is_in_order w x ≡ true) × IsQueue (x ∷ queue)
+  IsQueue (s ∷ []) = Unit {0}
+  IsQueue (s ∷ x ∷ queue) = (is_in_order s x ≡ true) × IsQueue (x ∷ queue)
 
   -- the queue and the rest have all moments, each in its order
   pub record AreKept (e : Earliest) : Type 0 where
     pub queue : IsQueue e.queue
     pub rest : IsTournament rank e.rest
-    pub stands : (w : Turn) → IsCurrent e w → Stands e w
+    pub stands : (s : NumberedMoment) → IsCurrent e s → Stands e s
 
   -- and the first of both are current
   pub record IsOrdered (e : Earliest) : Type 0 where

@@ -19,19 +19,19 @@ use std::marker::Model;
 
 /// A moment, in nanoseconds since 1970, and the number that it was set for.
 #[derive(Clone, Copy)]
-struct Turn {
+struct NumberedMoment {
     moment: u128,
     number: usize,
 }
 
 /// Moments by number, in nanoseconds since 1970; a number may have none. Most groups that are
-/// flushed are flushed again after all others, so moments that come in order stand in a queue, where
-/// setting one takes no search. The others play a tournament. Of a number that got another moment,
-/// the former stays where it is until it is an end of the queue or wins.
+/// flushed are flushed again after all others, so moments that come in order stand in a queue,
+/// where setting one takes no search. The others play a tournament. Of a number that got another
+/// moment, the former stays where it is until it is an end of the queue or wins.
 #[derive(Drop)]
 pub struct Earliest {
     moments: Vec<Option<u128>>,
-    queue: VecDeque<Turn>,
+    queue: VecDeque<NumberedMoment>,
     rest: Tournament,
 }
 
@@ -103,8 +103,8 @@ impl Earliest {
         self.queue.reserve(more)
     }
 
-    /// Sets or removes the moment of a number. It takes no memory, and next to no time if the moment
-    /// is the last or the first of the queue.
+    /// Sets or removes the moment of a number. It takes no memory, and next to no time if the
+    /// moment is the last or the first of the queue.
     #[inline(never)]
     pub fn set<O: Ranking>(&mut self, order: &O, number: usize, moment: Option<u128>)
         requires room { number < length self.old.moments }
@@ -118,7 +118,7 @@ impl Earliest {
         }
         match moment {
             None => self.moments[number] = None,
-            Some(moment) => self.insert(order, Turn { moment, number }),
+            Some(moment) => self.insert(order, NumberedMoment { moment, number }),
         }
         self.drop_first();
         self.drop_winners(order);
@@ -148,67 +148,67 @@ impl Earliest {
     }
 
     /// Returns the first moment of the queue.
-    fn front(&self) -> Option<Turn>
+    fn front(&self) -> Option<NumberedMoment>
         ensures { result ≡ slice_get self.now.queue 0 }
     {
         self.queue.front().copied()
     }
 
     /// Returns the last moment of the queue.
-    fn last(&self) -> Option<Turn>
+    fn last(&self) -> Option<NumberedMoment>
         ensures { result ≡ last_or None self.now.queue }
     {
         self.queue.back().copied()
     }
 
     /// Returns the earliest of the rest.
-    fn winner(&self) -> Option<Turn>
-        ensures number { option_map (λ w. w.number) result ≡ first_of self.now.rest }
-        ensures moment { IfSome result (λ w.
-            tournament.moment_at self.now.rest w.number ≡ Some w.moment) }
+    fn winner(&self) -> Option<NumberedMoment>
+        ensures number { option_map (λ s. s.number) result ≡ first_of self.now.rest }
+        ensures moment { IfSome result (λ s.
+            tournament.moment_at self.now.rest s.number ≡ Some s.moment) }
     {
         let number = self.rest.first()?;
         let moment = self.rest.at(number)?;
-        Some(Turn { moment, number })
+        Some(NumberedMoment { moment, number })
     }
 
     /// Sets the moment of a number: at an end of the queue if it is in order there, else among the
     /// rest.
-    fn insert<O: Ranking>(&mut self, order: &O, turn: Turn)
-        requires room { turn.number < length self.old.moments }
+    fn insert<O: Ranking>(&mut self, order: &O, standing: NumberedMoment)
+        requires room { standing.number < length self.old.moments }
         requires kept { AreKept (O.rank order.now) self.old }
         ensures moments { self.new.moments
-            ≡ slice_set self.old.moments turn.number (Some turn.moment) }
-        ensures held { (n : ℕ) → IsHeld self.new n → IsHeld self.old n ⊎ (n ≡ turn.number) }
+            ≡ slice_set self.old.moments standing.number (Some standing.moment) }
+        ensures held { (n : ℕ) → IsHeld self.new n → IsHeld self.old n ⊎ (n ≡ standing.number) }
         ensures kept { AreKept (O.rank order.now) self.new }
     {
         let has_room = self.queue.len() < self.queue.capacity();
-        if has_room && are_in_order(order, self.last(), Some(turn)) {
-            self.moments[turn.number] = Some(turn.moment);
-            self.queue.push_back_reserved(turn);
+        if has_room && are_in_order(order, self.last(), Some(standing)) {
+            self.moments[standing.number] = Some(standing.moment);
+            self.queue.push_back_reserved(standing);
             return;
         }
-        self.moments[turn.number] = None;
+        self.moments[standing.number] = None;
         self.drop_last();
-        self.insert_before(order, turn);
+        self.insert_before(order, standing);
     }
 
-    /// Sets the moment of a number that has none: at the front of the queue if it is in order there,
-    /// else among the rest.
-    fn insert_before<O: Ranking>(&mut self, order: &O, turn: Turn)
-        requires room { turn.number < length self.old.moments }
+    /// Sets the moment of a number that has none: at the front of the queue if it is in order
+    /// there, else among the rest.
+    fn insert_before<O: Ranking>(&mut self, order: &O, standing: NumberedMoment)
+        requires room { standing.number < length self.old.moments }
         requires kept { AreKept (O.rank order.now) self.old }
         ensures moments { self.new.moments
-            ≡ slice_set self.old.moments turn.number (Some turn.moment) }
-        ensures held { (n : ℕ) → IsHeld self.new n → IsHeld self.old n ⊎ (n ≡ turn.number) }
+            ≡ slice_set self.old.moments standing.number (Some standing.moment) }
+        ensures held { (n : ℕ) → IsHeld self.new n → IsHeld self.old n ⊎ (n ≡ standing.number) }
         ensures kept { AreKept (O.rank order.now) self.new }
     {
-        self.moments[turn.number] = Some(turn.moment);
+        self.moments[standing.number] = Some(standing.moment);
         let has_room = self.queue.len() < self.queue.capacity();
-        if has_room && are_in_order(order, Some(turn), self.front()) {
-            self.queue.push_front_reserved(turn);
+        if has_room && are_in_order(order, Some(standing), self.front()) {
+            self.queue.push_front_reserved(standing);
         } else {
-            self.rest.set(order, turn.number, Some(turn.moment));
+            self.rest.set(order, standing.number, Some(standing.moment));
         }
     }
 
@@ -216,7 +216,8 @@ impl Earliest {
     fn drop_last(&mut self)
         ensures moments { self.new.moments ≡ self.old.moments }
         ensures rest { self.new.rest ≡ self.old.rest }
-        ensures queue { (w : Turn) → StandsIn self.new.queue w → StandsIn self.old.queue w }
+        ensures queue { (s : NumberedMoment)
+            → StandsIn self.new.queue s → StandsIn self.old.queue s }
         ensures kept { (rank : ℕ → ℕ → Ordering) → AreKept rank self.old → AreKept rank self.new }
         ensures last { IfSome (last_or None self.new.queue) (IsCurrent self.new) }
     {
@@ -229,7 +230,8 @@ impl Earliest {
     fn drop_first(&mut self)
         ensures moments { self.new.moments ≡ self.old.moments }
         ensures rest { self.new.rest ≡ self.old.rest }
-        ensures queue { (w : Turn) → StandsIn self.new.queue w → StandsIn self.old.queue w }
+        ensures queue { (s : NumberedMoment)
+            → StandsIn self.new.queue s → StandsIn self.old.queue s }
         ensures kept { (rank : ℕ → ℕ → Ordering) → AreKept rank self.old → AreKept rank self.new }
         ensures front { IsFrontCurrent self.new self.new.queue }
     {
@@ -239,13 +241,13 @@ impl Earliest {
     }
 
     /// Returns whether there is a moment that its number doesn't have any more.
-    fn is_outdated(&self, turn: Option<Turn>) -> bool
-        ensures outdated { result ≡ true → IsOutdated self.now turn }
-        ensures current { result ≡ false → IfSome turn (IsCurrent self.now) }
+    fn is_outdated(&self, standing: Option<NumberedMoment>) -> bool
+        ensures outdated { result ≡ true → IsOutdated self.now standing }
+        ensures current { result ≡ false → IfSome standing (IsCurrent self.now) }
     {
-        match turn {
+        match standing {
             None => false,
-            Some(turn) => !is_same(self.at(turn.number), Some(turn.moment)),
+            Some(standing) => !is_same(self.at(standing.number), Some(standing.moment)),
         }
     }
 
@@ -279,7 +281,7 @@ impl Earliest {
 }
 
 /// Returns whether two moments are in order, or one of them is missing.
-fn are_in_order<O: Ranking>(order: &O, a: Option<Turn>, b: Option<Turn>) -> bool
+fn are_in_order<O: Ranking>(order: &O, a: Option<NumberedMoment>, b: Option<NumberedMoment>) -> bool
     ensures { result ≡ are_in_order (O.rank order.now) a b }
 {
     match (a, b) {
@@ -290,7 +292,7 @@ fn are_in_order<O: Ranking>(order: &O, a: Option<Turn>, b: Option<Turn>) -> bool
 
 /// Returns whether the first moment isn't later than the second and, if they are equal, the order
 /// doesn't put its number after the other.
-fn is_in_order<O: Ranking>(order: &O, a: Turn, b: Turn) -> bool
+fn is_in_order<O: Ranking>(order: &O, a: NumberedMoment, b: NumberedMoment) -> bool
     ensures { result ≡ is_in_order (O.rank order.now) a b }
 {
     a.moment < b.moment

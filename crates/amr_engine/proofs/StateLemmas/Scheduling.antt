@@ -20,7 +20,7 @@ use Rattle.amr_time.specs.Time.{Moment}
 use Rattle.amr_tables.proofs.Placing.{value_set, value_apart}
 use Rattle.amr_tables.specs.Places.{value_at}
 use Rattle.amr_tables.specs.Numbered.{Numbered, map_of, has_place, number_of, next_number, key_with, key_at, rank_of, KeepsPlaces, GetsNumber, IsNumber, IsNumbering}
-use Rattle.amr_tables.specs.declared.earliest.Turn.{Turn}
+use Rattle.amr_tables.specs.declared.earliest.NumberedMoment.{NumberedMoment}
 use Rattle.amr_tables.specs.Earliest.{Earliest, moment_at, IsHeld, IsOrdered, IsEarliest}
 use Rattle.amr_tables.proofs.Firsts.{ordered_agrees}
 use Rattle.amr_tables.specs.Members.{has}

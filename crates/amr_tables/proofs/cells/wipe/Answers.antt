@@ -1,5 +1,4 @@
-use Rattle.std.proofs.Common.{◌∙◌, sym, arith, refl}
-use Rattle.amr_tables.proofs.Placing.{length-slice_set}
+use Rattle.std.proofs.Common.{◌∙◌, length-set, sym, arith, refl}
 use Rattle.amr_tables.proofs.Stamping.{kept_values, wiped_more}
 use Rattle.amr_tables.proofs.cells.wipe.Goals as goal
 
@@ -17,7 +16,7 @@ loop-place-preserved g c =
     let cell = c.index_mut.result.now in
     record {
       values = kept_values cells n cell 0 c.index_mut.ensures.value ∙ c.loop-place.invariant.values;
-      count = length-slice_set cells n (record cell { stamp = 0 }) ∙ c.loop-place.invariant.count;
+      count = length-set cells n (record cell { stamp = 0 }) ∙ c.loop-place.invariant.count;
       wiped = wiped_more cells n (record cell { stamp = 0 }) refl c.loop-place.invariant.wiped;
     }
 

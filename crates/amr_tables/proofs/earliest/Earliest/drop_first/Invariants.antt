@@ -1,6 +1,6 @@
 use Rattle.std.proofs.Common.{◌≡◌, ℕ, length}
 use Rattle.std.specs.declared.cmp.Ordering.{Ordering}
-use Rattle.amr_tables.specs.declared.earliest.Turn.{Turn}
+use Rattle.amr_tables.specs.declared.earliest.NumberedMoment.{NumberedMoment}
 use Rattle.amr_tables.specs.Earliest.{StandsIn, AreKept}
 use Rattle.amr_tables.proofs.earliest.Earliest.drop_first.Given as goal
 
@@ -8,7 +8,7 @@ abbrev pub invariant-loop-self : goal.invariant-loop-self
 invariant-loop-self l = record {
   moments : l.self.moments ≡ l.initial.self.moments;
   rest : l.self.rest ≡ l.initial.self.rest;
-  queue : (w : Turn) → StandsIn l.self.queue w → StandsIn l.initial.self.queue w;
+  queue : (s : NumberedMoment) → StandsIn l.self.queue s → StandsIn l.initial.self.queue s;
   kept : (rank : ℕ → ℕ → Ordering) → AreKept rank l.initial.self → AreKept rank l.self;
 }
 

@@ -1,9 +1,8 @@
-use Rattle.std.proofs.Common.{◌≡◌, ◌≢◌, ◌∙◌, ◌<◌, Some, None, length, sym, ap, subst}
+use Rattle.std.proofs.Common.{◌≡◌, ◌≢◌, ◌∙◌, ◌<◌, Some, None, length, length-set, sym, ap, subst}
 use Rattle.amr_tables.specs.Places.{values_of}
 use Rattle.amr_tables.specs.Tournament.{first_of}
 use Rattle.amr_tables.specs.Tournament as tournament
 use Rattle.amr_tables.specs.Earliest.{Earliest, moment_at, IsHeld, AreKept}
-use Rattle.amr_tables.proofs.Placing.{length-slice_set}
 use Rattle.amr_tables.proofs.Firsts.{winner_leaves_fewer, held_without_winner, winner_leaves}
 use Rattle.amr_tables.proofs.earliest.Earliest.drop_winners.Goals as goal
 
@@ -24,7 +23,7 @@ loop-number-preserved g c =
     record {
       moments = ap (λ (x : Earliest). x.moments) c.self.view_is ∙ c.loop-number.invariant.moments;
       queue = ap (λ (x : Earliest). x.queue) c.self.view_is ∙ c.loop-number.invariant.queue;
-      room = ap length c.set.ensures.moments ∙ length-slice_set e.rest.moments n None ∙ ap (λ (x : Earliest). length x.rest.moments) c.self.view_is ∙ c.loop-number.invariant.room;
+      room = ap length c.set.ensures.moments ∙ length-set e.rest.moments n None ∙ ap (λ (x : Earliest). length x.rest.moments) c.self.view_is ∙ c.loop-number.invariant.room;
       held = λ k held. c.loop-number.invariant.held k (subst (λ (x : Earliest). IsHeld x k) c.self.view_is (held_without_winner e n wins c.set.new.self c.set.ensures.moments k held));
       kept = winner_leaves e n wins c.set.new.self c.set.ensures.moments rank outdated c.set.ensures.kept (subst (AreKept rank) (sym c.self.view_is) c.loop-number.invariant.kept);
     }

@@ -2,14 +2,14 @@ use Rattle.std.proofs.Common.{◌≡◌, ◌∙◌, arith, refl, ap, None, Some,
 use Rattle.std.specs.Borrow.{Bor}
 use Rattle.std.specs.List.{last_or}
 use Rattle.std.specs.Option.{option_copied}
-use Rattle.amr_tables.specs.declared.earliest.Turn.{Turn}
+use Rattle.amr_tables.specs.declared.earliest.NumberedMoment.{NumberedMoment}
 use Rattle.amr_tables.specs.Earliest.{Earliest}
 use Rattle.amr_tables.proofs.Queueing.{copied_last}
 use Rattle.amr_tables.proofs.earliest.Earliest.last.Goals as goal
 
-copied_some : (r : Option (Bor Turn)) → is_some (option_copied r) ≡ is_some r
+copied_some : (r : Option (Bor NumberedMoment)) → is_some (option_copied r) ≡ is_some r
 copied_some None = refl
-copied_some (Some w) = refl
+copied_some (Some s) = refl
 
 pub returns : goal.returns
 returns c =

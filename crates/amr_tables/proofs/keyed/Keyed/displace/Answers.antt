@@ -1,10 +1,9 @@
-use Rattle.std.proofs.Common.{length, ◌≡◌, true, false, None, Some, sym, ap, subst, ◌∙◌, is_some, IsTrue}
+use Rattle.std.proofs.Common.{length, length-set, ◌≡◌, true, false, None, Some, sym, ap, subst, ◌∙◌, is_some, IsTrue}
 use Rattle.std.specs.Prelude.{option_and_then}
 use Rattle.std.specs.FinMap.{find}
 use Rattle.amr_labels.specs.Map as map
 use Rattle.amr_tables.specs.Places.{value_at}
 use Rattle.amr_tables.specs.Numbered.{IsNumbering, map_of, has_place, is_entered}
-use Rattle.amr_tables.proofs.Placing.{length-slice_set}
 use Rattle.amr_tables.proofs.Numbering.{get-shown, displaced_is, shown-displaced}
 use Rattle.amr_tables.proofs.keyed.Keyed.displace.Goals as goal
 
@@ -57,5 +56,5 @@ invariant_of-self g c =
     let t = c.self.inside in (
       subst (λ p. IsNumbering R (record { numbers = t.numbers.list; cells = p.values; marks = p.marks })) (sym c.displace.ensures.places)
           (displaced_is g.met.K.Ord.total (record { numbers = t.numbers.list; cells = t.cells.values; marks = t.cells.marks }) c.in-Some.number c.args.value c.self.invariant.0),
-      c.self.invariant.1 ∙ sym (ap (λ p. length p.values) c.displace.ensures.places ∙ length-slice_set t.cells.values c.in-Some.number c.args.value),
+      c.self.invariant.1 ∙ sym (ap (λ p. length p.values) c.displace.ensures.places ∙ length-set t.cells.values c.in-Some.number c.args.value),
     )

@@ -1,4 +1,4 @@
-use Rattle.std.proofs.Common.{length, ◌≡◌, true, false, Some, sym, ap, subst, ◌∙◌, slice_set}
+use Rattle.std.proofs.Common.{length, length-set, ◌≡◌, true, false, Some, sym, ap, subst, ◌∙◌, slice_set}
 use Rattle.std.specs.Prelude.{option_and_then, ◌||◌}
 use Rattle.std.specs.Option.{option_map_or}
 use Rattle.std.specs.Ordering.{eq_by_cmp}
@@ -6,7 +6,6 @@ use Rattle.std.specs.FinMap.{find}
 use Rattle.amr_labels.specs.Map as map
 use Rattle.amr_tables.specs.Places.{value_at, is_marked}
 use Rattle.amr_tables.specs.Numbered.{IsNumbering, map_of, number_of, has_place, is_entered}
-use Rattle.amr_tables.proofs.Placing.{length-slice_set}
 use Rattle.amr_tables.proofs.Numbering.{get-shown, displaced_is, shown-displaced, marked_is, entered-marked}
 use Rattle.amr_tables.proofs.keyed.Keyed.swap_at.Goals as goal
 
@@ -67,5 +66,5 @@ invariant_of-self g c =
       subst (λ p. IsNumbering R (record { numbers = t.numbers.list; cells = p.values; marks = p.marks })) (sym c.swap.ensures.places)
           (displaced_is g.met.K.Ord.total (record { numbers = t.numbers.list; cells = t.cells.values; marks = slice_set t.cells.marks n true }) n c.args.value.now
           (marked_is g.met.K.Ord.total (record { numbers = t.numbers.list; cells = t.cells.values; marks = t.cells.marks }) n (c.self.invariant.0.within key n at) c.self.invariant.0)),
-      c.self.invariant.1 ∙ sym (ap (λ p. length p.values) c.swap.ensures.places ∙ length-slice_set t.cells.values n c.args.value.now),
+      c.self.invariant.1 ∙ sym (ap (λ p. length p.values) c.swap.ensures.places ∙ length-set t.cells.values n c.args.value.now),
     )

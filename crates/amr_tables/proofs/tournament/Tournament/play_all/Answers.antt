@@ -1,7 +1,7 @@
-use Rattle.std.proofs.Common.{◌≤◌, ◌<◌, ◌-◌, length, sym, ap, ◌∙◌, arith}
+use Rattle.std.proofs.Common.{◌≤◌, ◌<◌, ◌-◌, length, length-set, sym, ap, ◌∙◌, arith}
 use Rattle.std.proofs.lemmas.Bool.Decides.{nat_tests}
 use Rattle.amr_tables.specs.Tournament.{Tournament, later_winner}
-use Rattle.amr_tables.proofs.Playing.{played_from, length_set}
+use Rattle.amr_tables.proofs.Playing.{played_from}
 use Rattle.amr_tables.proofs.tournament.Tournament.play_all.Goals as goal
 
 pub loop-node-preserved : goal.loop-node-preserved
@@ -14,7 +14,7 @@ loop-node-preserved g c =
     record {
       moments = c.play.ensures.moments ∙ c.loop-node.invariant.moments;
       inner = omega (arith, inner, ap length c.play.ensures.moments);
-      nodes = ap length c.play.ensures.winners ∙ length_set t.winners node (later_winner rank t node) ∙ c.loop-node.invariant.nodes ∙ sym (ap length c.play.ensures.moments);
+      nodes = ap length c.play.ensures.winners ∙ length-set t.winners node (later_winner rank t node) ∙ c.loop-node.invariant.nodes ∙ sym (ap length c.play.ensures.moments);
       played = played_from rank t c.play.new.self node (λ i. record { moments = c.play.ensures.moments i; winners = c.play.ensures.winners i }) one inner c.loop-node.invariant.nodes
           (λ j some after within. c.loop-node.invariant.played j some (omega (arith, after, one)) within);
     }

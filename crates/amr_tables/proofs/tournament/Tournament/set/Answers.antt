@@ -1,15 +1,15 @@
-use Rattle.std.proofs.Common.{◌≡◌, ◌≢◌, ◌<◌, ◌/◌, ◌+◌, length, refl, slice_set, sym, ap, subst, ◌∙◌, arith}
+use Rattle.std.proofs.Common.{◌≡◌, ◌≢◌, ◌<◌, ◌/◌, ◌+◌, length, length-set, refl, slice_set, sym, ap, subst, ◌∙◌, arith}
 use Rattle.std.proofs.lemmas.Bool.Decides.{nat_tests}
 use Rattle.amr_tables.specs.Tournament.{Tournament, later_winner, IsTournament}
 use Rattle.amr_tables.proofs.Placing.{same_value_set}
-use Rattle.amr_tables.proofs.Playing.{IsClimbed, begun, climbs, ended, half_as_was, stopped, length_set, half_bounds}
+use Rattle.amr_tables.proofs.Playing.{IsClimbed, begun, climbs, ended, half_as_was, stopped, half_bounds}
 use Rattle.amr_tables.proofs.tournament.Tournament.set.Goals as goal
 
 pub loop-node-init : goal.loop-node-init
 loop-node-init g c =
     let t : Tournament = record { moments = c.self.inside.moments.items; winners = c.self.inside.winners.items } in
     let rank = g.O.Ranking.rank c.args.order.now in
-    let len : length (slice_set t.moments c.args.number c.args.moment) ≡ length t.moments = length_set t.moments c.args.number c.args.moment in
+    let len : length (slice_set t.moments c.args.number c.args.moment) ≡ length t.moments = length-set t.moments c.args.number c.args.moment in
     let room : c.args.number < length t.moments = subst (λ (x : Tournament). c.args.number < length x.moments) (sym c.self.view_is) c.requires.room in
     let played : IsTournament rank t = subst (IsTournament rank) (sym c.self.view_is) c.requires.kept in
     let at : c.len.result ≡ length t.moments = c.len.ensures ∙ c.self.inside.moments.ok.0 in
@@ -33,7 +33,7 @@ loop-node-preserved g c =
       moments = c.play-former.ensures.moments ∙ c.loop-node.invariant.moments;
       first = bounds.0;
       inner = omega (arith, bounds.1, ap length c.play-former.ensures.moments);
-      nodes = ap length c.play-former.ensures.winners ∙ length_set u.winners (node / 2) (later_winner rank u (node / 2)) ∙ c.loop-node.invariant.nodes ∙ sym (ap length c.play-former.ensures.moments);
+      nodes = ap length c.play-former.ensures.winners ∙ length-set u.winners (node / 2) (later_winner rank u (node / 2)) ∙ c.loop-node.invariant.nodes ∙ sym (ap length c.play-former.ensures.moments);
       climbed = climbs rank c.args.number t u node c.loop-node.invariant.climbed c.loop-node.invariant.moments bounds.0 (subst (λ ms. node / 2 < length ms) c.loop-node.invariant.moments bounds.1) c.loop-node.invariant.nodes
           c.play-former.new.self (λ i. record { moments = c.play-former.ensures.moments i; winners = c.play-former.ensures.winners i });
     }
