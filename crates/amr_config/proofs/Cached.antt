@@ -1,9 +1,10 @@
 -- Caches of answers for label sets: without an answer, and with one more.
-use Rattle.std.proofs.Common.{◌≡◌, cond, None, Some, refl, sym, ap, ◌∙◌}
+use Rattle.std.proofs.Common.{◌≡◌, cond, None, Some, refl, sym, ap, subst, ◌∙◌}
+use Rattle.std.specs.Prelude.{Result, Ok, Err, OnOk, OnErr}
 use Rattle.std.specs.declared.cmp.Ordering.TheVariants.{Less, Equal, Greater}
 use Rattle.std.specs.Ordering.{is_eq}
 use Rattle.amr_labels.specs.Labels.{LabelSet, label_set_cmp, label_set_cmp_total, label_set_cmp-IsAntisymmetric}
-use Rattle.amr_labels.specs.Map.{Map, empty, get, set, get-empty, get-set}
+use Rattle.amr_labels.specs.Map.{Map, empty, get, set, insert, get-empty, get-set}
 use Rattle.amr_tables.specs.Numbered.{Numbered, map_of}
 use Rattle.amr_config.specs.Groups.{CachesOnly}
 
@@ -41,3 +42,9 @@ module _ {X : Type 0} (answer : LabelSet → X) (cached : Numbered LabelSet X) w
 
   pub caches_more : (more : Numbered LabelSet X) (labels : LabelSet) (x : X) → CachesOnly answer cached → x ≡ answer labels → map_of label_set_cmp more ≡ set (map_of label_set_cmp cached) labels (Some x) → CachesOnly answer more
   caches_more more = gives_more answer (map_of label_set_cmp cached) (map_of label_set_cmp more)
+
+  -- nothing is cached if there is no memory for it
+  pub caches_inserted : {A E : Type 0} (r : Result A E) (more : Numbered LabelSet X) (labels : LabelSet) (x : X) → CachesOnly answer cached → x ≡ answer labels
+      → OnOk r (map_of label_set_cmp more ≡ insert (map_of label_set_cmp cached) labels x) → OnErr r (map_of label_set_cmp more ≡ map_of label_set_cmp cached) → CachesOnly answer more
+  caches_inserted (Ok done) more labels x is_cached is shows none = caches_more more labels x is_cached is shows
+  caches_inserted (Err error) more labels x is_cached is shows none = subst (Gives answer) (sym none) is_cached

@@ -52,8 +52,6 @@ impl GroupLabels {
         ensures { self.new ≡ self.old }
     {
         let kept = labels.clone()?;
-        self.kept.make_place(labels.clone()?)?;
-        self.kept.displace(labels, Some(kept));
-        Ok(())
+        self.kept.insert(labels.clone()?, kept)
     }
 }

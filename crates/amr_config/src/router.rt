@@ -149,10 +149,8 @@ impl Router {
         ensures { self.new ≡ self.old }
     {
         let rules = self.sides_of(labels)?;
-        self.cache.make_place(labels.clone()?)?;
-        self.cache
-            .displace(labels, Some(CachedRouting { groups, rules }));
-        Ok(())
+        let found = CachedRouting { groups, rules };
+        self.cache.insert(labels.clone()?, found)
     }
 
     /// Returns which sides of the inhibition rules these labels are on. It asks the matchers once

@@ -260,22 +260,12 @@ impl QuietGroups {
     }
 }
 
-/// Sets when a group is quiet. It looks for a group that has a place once.
+/// Sets when a group is quiet.
 fn insert(times: &mut Times, group: &RouteLabels, time: QuietTime) -> Result<(), AllocError>
     ensures ok { OnOk result (times_in times.new ≡ map.insert (times_in times.old) group.now time) }
     ensures err { OnErr result (times_in times.new ≡ times_in times.old) }
 {
-    let (number, _) = times.look_up_number(group);
-    match number {
-        None => {
-            times.make_place(group.clone()?)?;
-            times.displace(group, Some(time));
-        }
-        Some(number) => {
-            times.swap_at(number, &mut Some(time));
-        }
-    }
-    Ok(())
+    times.insert(group.clone()?, time)
 }
 
 /// Removes a group.

@@ -308,10 +308,6 @@ pub entered-placed : {K V : Type 0} (R : K → K → Ordering) (t : Numbered K V
 unfolding is_entered has_place
 entered-placed R t k e = some_of (is_marked t.marks) (find R k t.numbers) e
 
-pub none_of : {A : Type 0} (x : Option A) → is_some x ≡ false → x ≡ None
-none_of None e = refl
-none_of (Some x) e = cc
-
 pub or_right : (a b : Bool) → IsTrue b → IsTrue (a || b)
 or_right true b h = refl
 or_right false b h = h

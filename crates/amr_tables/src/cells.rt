@@ -93,16 +93,6 @@ impl<V> Cells<V> {
         Ok(())
     }
 
-    /// Sets or removes the value at a place, and returns the former one. It takes no memory.
-    pub(crate) fn displace(&mut self, place: usize, value: Option<V>) -> Option<V>
-        requires { place < length self.old.values }
-        ensures former { result ≡ value_at self.old.values place }
-        ensures places { self.new
-            ≡ record self.old { values = slice_set self.old.values place value } }
-    {
-        mem::replace(&mut self.cells[place].value, value)
-    }
-
     /// Swaps the value at a place, or `None` if it is empty, with another, and marks the place.
     /// Returns whether it was marked before. It takes no memory.
     pub(crate) fn swap(&mut self, place: usize, value: &mut Option<V>) -> bool

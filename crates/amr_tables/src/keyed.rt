@@ -1,7 +1,7 @@
 //! Values by key. Each key has a number, and its value is at the place with that number, so that a
 //! value can be swapped without memory. The state keeps alerts, silences, members, timers and the
 //! notification log in such tables.
-ghost use Rattle.std.specs.Prelude.{◌≡◌, [], IsTrue, Option, is_some, false, OnOk, OnErr, IfOk, ◌<◌, map};
+ghost use Rattle.std.specs.Prelude.{◌≡◌, [], IsTrue, Some, is_some, false, OnOk, OnErr, IfOk, map};
 ghost use Rattle.std.specs.Map.Iter.{deref_pair};
 ghost use Rattle.std.specs.Option.{option_copied};
 ghost use Rattle.amr_labels.specs.Map as map;
@@ -88,13 +88,6 @@ impl<K: Key + Drop, V: Drop> Keyed<K, V> {
         }
     }
 
-    /// Returns whether a key has a place.
-    pub fn has_place(&self, key: &K) -> bool
-        ensures { result ≡ has_place K.cmp self.now key.now }
-    {
-        self.numbers.contains_key(key)
-    }
-
     /// Returns the number of a key, if it has a place, and its value. With the number, `swap_at` needn't
     /// look for the key again.
     pub fn look_up_number(&self, key: &K) -> (Option<usize>, Option<&V>)
@@ -140,9 +133,9 @@ impl<K: Key + Drop, V: Drop> Keyed<K, V> {
         self.cells.at(number)
     }
 
-    /// Makes an empty place for a key, unless it has one.
-    pub fn make_place(&mut self, key: K) -> Result<(), AllocError>
-        ensures made { OnOk result (IsTrue (has_place K.cmp self.new key)) }
+    /// Makes an empty place for a key, unless it has one. Returns its number.
+    pub fn make_place(&mut self, key: K) -> Result<usize, AllocError>
+        ensures made { IfOk result (λ number. number_of K.cmp self.new key ≡ Some number) }
         ensures places { KeepsPlaces K.cmp self.old self.new }
         ensures shown { map_of K.cmp self.new ≡ map_of K.cmp self.old }
         ensures entered { SameEntered K.cmp self.old self.new }
@@ -151,32 +144,29 @@ impl<K: Key + Drop, V: Drop> Keyed<K, V> {
             → self.new.numbers ≡ self.old.numbers }
         ensures number { OnOk result (has_place K.cmp self.old key ≡ false
             → GetsNumber K.cmp self.old self.new key (next_number self.old)) }
+        ensures numbering { IsNumbering K.cmp self.new }
         ensures err { OnErr result (SamePlaces K.cmp self.old self.new) }
         ensures kept { OnErr result (self.new.numbers ≡ self.old.numbers) }
     {
-        if self.numbers.contains_key(&key) {
-            return Ok(());
+        if let Some(number) = self.numbers.get(&key) {
+            return Ok(number);
         }
+        let number = self.cells.len();
         self.numbers.reserve()?;
         self.cells.add_place()?;
         self.numbers.insert(key);
-        Ok(())
+        Ok(number)
     }
 
-    /// Sets or removes the value of a key that has a place, and returns the former one. It takes no
-    /// memory.
-    pub fn displace(&mut self, key: &K, value: Option<V>) -> Option<V>
-        requires { IsTrue (has_place K.cmp self.old key.now) }
-        ensures answer { result ≡ map.get (map_of K.cmp self.old) key.now }
-        ensures shown { map_of K.cmp self.new ≡ map.set (map_of K.cmp self.old) key.now value }
-        ensures places { SamePlaces K.cmp self.old self.new }
-        ensures entered { SameEntered K.cmp self.old self.new }
-        ensures keys { self.new.numbers ≡ self.old.numbers }
+    /// Puts a value under a key. The former value is dropped.
+    pub fn insert(&mut self, key: K, value: V) -> Result<(), AllocError>
+        ensures ok { OnOk result
+            (map_of K.cmp self.new ≡ map.insert (map_of K.cmp self.old) key value) }
+        ensures err { OnErr result (map_of K.cmp self.new ≡ map_of K.cmp self.old) }
     {
-        match self.numbers.get(key) {
-            Some(number) => self.cells.displace(number, value),
-            None => unreachable!(),
-        }
+        let number = self.make_place(key)?;
+        self.swap_at(number, &mut Some(value));
+        Ok(())
     }
 
     /// Swaps the value of the key with a number, or `None` if it has none, with another, and marks

@@ -1,6 +1,6 @@
 //! The numbers of the keys of a table, in the order in which the keys came. `Keyed` looks its keys up
 //! here.
-ghost use Rattle.std.specs.Prelude.{◌≡◌, ◌<◌, None, [], map, length, is_some, IfOk, OnOk};
+ghost use Rattle.std.specs.Prelude.{◌≡◌, ◌<◌, None, [], map, length, IfOk, OnOk};
 ghost use Rattle.std.specs.FinMap.{find, put};
 ghost use Rattle.std.specs.Option.{option_copied};
 ghost use Rattle.amr_tables.specs.Numbered.{numbered_key, key_with};
@@ -52,13 +52,6 @@ impl<K: Key + Drop> Numbers<K> {
         ensures { option_copied result ≡ key_with self.now.list number }
     {
         self.keys.get_index(number)
-    }
-
-    /// Returns whether a key has a number.
-    pub(crate) fn contains_key(&self, key: &K) -> bool
-        ensures { result ≡ is_some (find K.cmp key.now self.now.list) }
-    {
-        self.get(key).is_some()
     }
 
     /// Makes room for one more key.

@@ -1,6 +1,6 @@
 -- The moments of alerts and groups by number, as the tables change, and the first of them.
 use Rattle.std.proofs.Common.{◌≡◌, ◌≢◌, ◌≤◌, ◌<◌, ◌⊎◌, inl, inr, ℕ, Bool, true, false, cond, IsTrue, is_some, [], Option, Some, None, length, refl, sym, ap, subst, ◌∙◌, arith}
-use Rattle.std.specs.Prelude.{◌==◌, if◌then◌else◌, slice_set}
+use Rattle.std.specs.Prelude.{if◌then◌else◌, slice_set}
 use Rattle.std.specs.Option.{option_cmp}
 use Rattle.std.specs.declared.cmp.Ordering.{Ordering}
 use Rattle.std.specs.declared.cmp.Ordering.TheVariants.{Less, Equal, Greater}
@@ -8,7 +8,6 @@ use Rattle.std.specs.Ordering.{nat_cmp, eq_by_cmp, is_gt, is_eq, ordering_then}
 use Rattle.std.specs.Cmp.{IsTotalOrder, nat_cmp_total}
 use Rattle.std.specs.FinMap.{find, IsAntisymmetric, nat_cmp-IsAntisymmetric}
 use Rattle.std.proofs.lemmas.Bool.{true≢false}
-use Rattle.std.proofs.lemmas.Bool.Decides.{nat_tests}
 use Rattle.std.proofs.lemmas.Cmp.{tied_itself, tied_back}
 use Rattle.std.proofs.lemmas.List.{length-set}
 use Rattle.std.proofs.lemmas.Map.Views.{tells_apart}
@@ -20,7 +19,6 @@ use Rattle.amr_time.specs.Time.{Moment}
 use Rattle.amr_tables.proofs.Placing.{value_set, value_apart}
 use Rattle.amr_tables.specs.Places.{value_at}
 use Rattle.amr_tables.specs.Numbered.{Numbered, map_of, has_place, number_of, next_number, key_with, key_at, rank_of, KeepsPlaces, GetsNumber, IsNumber, IsNumbering}
-use Rattle.amr_tables.specs.declared.earliest.NumberedMoment.{NumberedMoment}
 use Rattle.amr_tables.specs.Earliest.{Earliest, moment_at, IsHeld, IsOrdered, IsEarliest}
 use Rattle.amr_tables.proofs.Firsts.{ordered_agrees}
 use Rattle.amr_tables.specs.Members.{has}
@@ -259,10 +257,6 @@ module _ {K V : Type 0} (R : K → K → Ordering) (t u : Numbered K V) where
 
   pub ranked : u.numbers ≡ t.numbers → (e : Earliest) → IsOrdered (rank_of R t) e → IsOrdered (rank_of R u) e
   ranked numbers e ordered = subst (λ ns. IsOrdered (λ a b. option_cmp R (key_with ns a) (key_with ns b)) e) (sym numbers) ordered
-
-  -- a key that got a number has it
-  pub got : IsTotalOrder R → (k : K) (n : ℕ) → GetsNumber R t u k n → number_of R u k ≡ Some n
-  got o k n gets = gets k ∙ ap (λ w. if is_eq w then Some n else number_of R t k) (tied_itself o k)
 
 -- ---- the timetable
 

@@ -6,7 +6,7 @@ ghost use Rattle.std.specs.Option.{option_copied};
 ghost use Rattle.amr_labels.specs.Labels.{label_set_cmp};
 ghost use Rattle.amr_labels.specs.Map as map;
 ghost use Rattle.amr_tables.specs.Places.{values_of};
-ghost use Rattle.amr_tables.specs.Numbered.{map_of, number_of, next_number, EntersAt, KeepsPlaces, SamePlaces, SameEntered, NoneEntered, IsMarkOf, IsNumber, IsSetAt, IsValueOf, GetsNumber};
+ghost use Rattle.amr_tables.specs.Numbered.{map_of, number_of, next_number, EntersAt, KeepsPlaces, SamePlaces, SameEntered, NoneEntered, IsMarkOf, IsNumber, IsNumbering, IsSetAt, IsValueOf, GetsNumber};
 ghost use Rattle.amr_rules.specs.Muting.{sources_of};
 ghost use Rattle.amr_engine.specs.Indexes.RuleSources.{AllArrived, pairs_of, stored_of};
 ghost use Rattle.amr_labels.specs.Set as set;
@@ -131,14 +131,18 @@ impl AlertTable {
         self.alerts.swap_at(number, alert)
     }
 
-    /// Makes a place for this label set, which has none, and adds it to the sources.
-    pub fn make_place(&mut self, labels: &Labels) -> Result<(), AllocError>
+    /// Makes a place for this label set, which has none, and adds it to the sources. Returns its
+    /// number.
+    pub fn make_place(&mut self, labels: &Labels) -> Result<usize, AllocError>
         requires { number_of label_set_cmp self.old labels.now ≡ None }
+        ensures made { IfOk result (λ number.
+            number_of label_set_cmp self.new labels.now ≡ Some number) }
         ensures shown { map_of label_set_cmp self.new ≡ map_of label_set_cmp self.old }
         ensures entered { SameEntered label_set_cmp self.old self.new }
         ensures places { KeepsPlaces label_set_cmp self.old self.new }
         ensures number { OnOk result (GetsNumber label_set_cmp self.old self.new
             labels.now (next_number self.old)) }
+        ensures numbering { OnOk result (IsNumbering label_set_cmp self.new) }
         ensures kept { OnErr result (self.new.numbers ≡ self.old.numbers) }
     {
         let copy = labels.clone()?;

@@ -381,11 +381,11 @@ fn list_under(
     ensures err { OnErr result (ListsSame sources.old sources.new) }
 {
     let labels = labels.clone()?;
-    sources.make_place(values.clone()?)?;
-    let mut listed = sources
-        .displace(values, None)
-        .unwrap_or(LabelMap::new(alloc));
+    let number = sources.make_place(values.clone()?)?;
+    let mut former = None;
+    sources.swap_at(number, &mut former);
+    let mut listed = former.unwrap_or(LabelMap::new(alloc));
     let inserted = listed.insert(labels, ());
-    drop(sources.displace(values, Some(listed)));
+    sources.swap_at(number, &mut Some(listed));
     inserted
 }

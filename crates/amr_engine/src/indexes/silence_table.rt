@@ -380,11 +380,7 @@ impl SilenceTable {
     {
         // Room for this change and for its undoing. Without room everything cached is forgotten.
         drop(self.changes.reserve(2));
-        self.silences.make_place(*id)?;
-        match self.silences.number_of(id) {
-            Some(number) => Ok(number),
-            None => unreachable!(),
-        }
+        self.silences.make_place(*id)
     }
 
     /// Swaps the silence with this id, or `None` if there is none, with another, given the number of
@@ -488,7 +484,5 @@ fn add(
     let index = cached.len();
     let labels = one.labels.clone()?;
     cached.push(one)?;
-    index_by_labels.make_place(labels.clone()?)?;
-    index_by_labels.displace(&labels, Some(index));
-    Ok(())
+    index_by_labels.insert(labels, index)
 }

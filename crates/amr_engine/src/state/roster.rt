@@ -263,11 +263,8 @@ impl Roster {
         let key = group.clone()?;
         let count = count_with_next(&self.groups)?;
         self.members.reserve_groups(count)?;
-        self.groups.make_place(key)?;
-        match self.groups.number_of(group) {
-            Some(number) => Ok(number),
-            None => unreachable!(),
-        }
+        let number = self.groups.make_place(key)?;
+        Ok(number)
     }
 
     /// Makes a place for a member that has none, with room for its group. Returns its number.
@@ -285,11 +282,8 @@ impl Roster {
         let key = route_labels.clone()?;
         let count = count_with_next(&self.placements)?;
         self.members.reserve_numbers(count)?;
-        self.placements.make_place(key)?;
-        match self.placements.number_of(route_labels) {
-            Some(number) => Ok(number),
-            None => unreachable!(),
-        }
+        let number = self.placements.make_place(key)?;
+        Ok(number)
     }
 }
 

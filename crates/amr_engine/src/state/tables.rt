@@ -133,8 +133,7 @@ fn place_log(log: &mut Keyed<LogKey, LogEntry>, key: &LogKey) -> Result<usize, A
     if let Some(number) = log.number_of(key) {
         return Ok(number);
     }
-    log.make_place(key.clone()?)?;
-    Ok(number_in(log, key))
+    log.make_place(key.clone()?)
 }
 
 /// Returns the number of a key that has a place.

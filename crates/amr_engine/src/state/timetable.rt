@@ -190,11 +190,8 @@ impl Timetable {
         ensures timers { self.new.timers ≡ self.old.timers }
     {
         make_room(&mut self.alert_removals, self.alerts.by_number())?;
-        self.alerts.make_place(labels)?;
-        match self.alerts.by_number().number_of(labels) {
-            Some(number) => Ok(number),
-            None => unreachable!(),
-        }
+        let number = self.alerts.make_place(labels)?;
+        Ok(number)
     }
 
     /// Returns the number of a group's place. Makes the place if there is none.
@@ -245,11 +242,8 @@ impl Timetable {
         make_room(&mut self.group_removals, &self.timers)?;
         // Groups are flushed in turn. Without room in the queue, their moments take longer.
         drop(self.flushes.reserve_queue());
-        self.timers.make_place(key)?;
-        match self.timers.number_of(group) {
-            Some(number) => Ok(number),
-            None => unreachable!(),
-        }
+        let number = self.timers.make_place(key)?;
+        Ok(number)
     }
 }
 

@@ -1,12 +1,9 @@
-use Rattle.std.proofs.Common.{◌≡◌, ◌∙◌, Some, ap, sym}
-use Rattle.amr_labels.specs.Labels.{label_set_cmp}
-use Rattle.amr_labels.specs.Map.{set}
-use Rattle.amr_tables.specs.Numbered.{map_of}
+use Rattle.std.proofs.Common.{◌≡◌, ◌∙◌, ap, sym}
 use Rattle.amr_config.specs.Stated.Config.{Config}
 use Rattle.amr_config.specs.Stated.RuleMatches.{rule_matches}
 use Rattle.amr_config.specs.declared.router.CachedRouting.{CachedRouting}
 use Rattle.amr_config.specs.Groups.{groups_of, routing_to_cache}
-use Rattle.amr_config.proofs.Cached.{caches_more}
+use Rattle.amr_config.proofs.Cached.{caches_inserted}
 use Rattle.amr_config.proofs.router.Router.cache_groups.Goals as goal
 
 pub invariant_of-self-2 : goal.invariant_of-self-2
@@ -18,7 +15,8 @@ invariant_of-self-2 c =
     let found : CachedRouting = record { groups = c.args.groups; rules = c.in_ok-rules.rules } in
     let groups : c.args.groups ≡ groups_of config here = c.requires ∙ ap (λ k. groups_of k here) (sym same) in
     let rules : c.in_ok-rules.rules ≡ rule_matches here config.rules = c.in_ok-rules.ensures.sides ∙ ap (λ k. rule_matches here k.rules) (sym same) in
-    let is : found ≡ routing_to_cache config here = λ i. record { groups = groups i; rules = rules i } in
-    let shows : map_of label_set_cmp c.displace.new.self ≡ set (map_of label_set_cmp cache) here (Some found) =
-    c.displace.ensures.shown ∙ ap (λ m. set m here (Some found)) c.make_place.ensures.shown in
-    (caches_more (routing_to_cache config) cache c.displace.new.self here found c.self.invariant.0 is shows, c.self.invariant.1)
+    let is : found ≡ routing_to_cache config here = λ i. record { groups = groups i; rules = rules i } in (
+      caches_inserted (routing_to_cache config) cache c.insert.result c.insert.new.self c.in_ok-clone.field-0 found c.self.invariant.0
+          (is ∙ ap (routing_to_cache config) (sym c.in_ok-clone.ensures.cases)) c.insert.ensures.ok c.insert.ensures.err,
+      c.self.invariant.1,
+    )

@@ -1,13 +1,11 @@
-use Rattle.std.proofs.Common.{◌≡◌, ℕ, None, IsTrue, is_some, sym, ap, ◌∙◌}
+use Rattle.std.proofs.Common.{ℕ, IsTrue, sym, ap, subst, ◌∙◌}
 use Rattle.std.specs.Ordering.{nat_cmp}
-use Rattle.std.proofs.lemmas.Bool.{true≢false}
-use Rattle.amr_tables.specs.Numbered.{Numbered, number_of, has_place}
+use Rattle.amr_tables.specs.Numbered.{Numbered, has_place, is_entered}
 use Rattle.amr_rules.specs.declared.silence.Silence.{Silence}
 use Rattle.amr_engine.proofs.indexes.silence_table.SilenceTable.place.Goals as goal
 
-numbered : (t : Numbered ℕ Silence) (id : ℕ) → IsTrue (has_place nat_cmp t id) → number_of nat_cmp t id ≡ None → ⊥
-unfolding has_place
-numbered t id h none = true≢false (sym h ∙ ap is_some none)
+pub returns-clause-entered : goal.returns-clause-entered
+returns-clause-entered c = λ other. c.make_place.ensures.entered other ∙ ap (λ (v : Numbered ℕ Silence). is_entered nat_cmp v other) c.self.view_is
 
-pub unreachable-requires : goal.unreachable-requires
-unreachable-requires c = numbered c.make_place.new.self c.args.id.now c.in_ok-make_place.ensures.made (sym c.number_of.ensures.number ∙ c.in-None.is)
+pub returns-clause-places : goal.returns-clause-places
+returns-clause-places c = λ other h. c.make_place.ensures.places other (subst (λ (v : Numbered ℕ Silence). IsTrue (has_place nat_cmp v other)) (sym c.self.view_is) h)

@@ -1,9 +1,9 @@
 use Rattle.std.proofs.Common.{◌≡◌, None, IsTrue, refl, sym, ap, subst, ◌∙◌, arith}
 use Rattle.amr_tables.specs.Numbered.{number_of, next_number, has_place, is_entered, GetsNumber}
-use Rattle.amr_engine.specs.State.State.{route_labels_cmp, route_labels_cmp_total}
+use Rattle.amr_engine.specs.State.State.{route_labels_cmp}
 use Rattle.amr_engine.specs.State.Rostered.{Rostered, IsGrouped}
 use Rattle.amr_engine.proofs.StateLemmas.Rostering.{grouped_same, grouped_placed}
-use Rattle.amr_engine.proofs.StateLemmas.Scheduling.{got, not_none, unplaced}
+use Rattle.amr_engine.proofs.StateLemmas.Scheduling.{unplaced}
 use Rattle.amr_engine.proofs.state.roster.Roster.add_member.Goals as goal
 
 pub invariant_of-self : goal.invariant_of-self
@@ -11,26 +11,16 @@ invariant_of-self c =
     let r = c.self.inside in
     grouped_same r.config r.placements r.groups r.members c.self.invariant r.placements r.groups c.reserve_numbers.new.self refl refl refl refl c.reserve_numbers.ensures.same c.reserve_numbers.ensures.more (omega (arith, c.reserve_numbers.ensures.groups))
 
-pub invariant_of-self-in_err-make_place : goal.invariant_of-self-in_err-make_place
-invariant_of-self-in_err-make_place c =
+pub invariant_of-self-in_err-number : goal.invariant_of-self-in_err-number
+invariant_of-self-in_err-number c =
     let r = c.self.inside in
-    grouped_same r.config r.placements r.groups r.members c.self.invariant c.make_place.new.self r.groups c.reserve_numbers.new.self c.in_err-make_place.ensures.kept c.make_place.ensures.shown refl refl c.reserve_numbers.ensures.same c.reserve_numbers.ensures.more (omega (arith, c.reserve_numbers.ensures.groups))
+    grouped_same r.config r.placements r.groups r.members c.self.invariant c.make_place.new.self r.groups c.reserve_numbers.new.self c.in_err-number.ensures.kept c.make_place.ensures.shown refl refl c.reserve_numbers.ensures.same c.reserve_numbers.ensures.more (omega (arith, c.reserve_numbers.ensures.groups))
 
-pub returns-in_err-make_place-clause-entered : goal.returns-in_err-make_place-clause-entered
-returns-in_err-make_place-clause-entered c = λ other. c.make_place.ensures.entered other ∙ ap (λ (v : Rostered). is_entered route_labels_cmp v.placements other) c.self.view_is
+pub returns-in_err-number-clause-entered : goal.returns-in_err-number-clause-entered
+returns-in_err-number-clause-entered c = λ other. c.make_place.ensures.entered other ∙ ap (λ (v : Rostered). is_entered route_labels_cmp v.placements other) c.self.view_is
 
-pub returns-in_err-make_place-clause-places : goal.returns-in_err-make_place-clause-places
-returns-in_err-make_place-clause-places c = λ other h. c.make_place.ensures.places other (subst (λ (v : Rostered). IsTrue (has_place route_labels_cmp v.placements other)) (sym c.self.view_is) h)
-
-pub unreachable-requires : goal.unreachable-requires
-unreachable-requires c =
-    let r = c.self.inside in
-    let route_labels = c.args.route_labels.now in
-    let new : number_of route_labels_cmp r.placements route_labels ≡ None = ap (λ (v : Rostered). number_of route_labels_cmp v.placements route_labels) c.self.view_is ∙ c.requires in
-    let gets : GetsNumber route_labels_cmp r.placements c.make_place.new.self c.in_ok-key.key (next_number r.placements) =
-    c.in_ok-make_place.ensures.number (unplaced route_labels_cmp r.placements c.in_ok-key.key (ap (number_of route_labels_cmp r.placements) c.in_ok-key.ensures.cases ∙ new)) in
-    not_none (next_number r.placements) _ (sym (got route_labels_cmp r.placements c.make_place.new.self route_labels_cmp_total c.in_ok-key.key (next_number r.placements) gets)
-    ∙ ap (number_of route_labels_cmp c.make_place.new.self) c.in_ok-key.ensures.cases ∙ sym c.number_of.ensures.number ∙ c.in-None.is)
+pub returns-in_err-number-clause-places : goal.returns-in_err-number-clause-places
+returns-in_err-number-clause-places c = λ other h. c.make_place.ensures.places other (subst (λ (v : Rostered). IsTrue (has_place route_labels_cmp v.placements other)) (sym c.self.view_is) h)
 
 pub invariant_of-self-2 : goal.invariant_of-self-2
 invariant_of-self-2 c =
@@ -38,7 +28,7 @@ invariant_of-self-2 c =
     let route_labels = c.args.route_labels.now in
     let k = c.reserve_numbers.new.self in
     let new : number_of route_labels_cmp r.placements c.in_ok-key.key ≡ None = ap (number_of route_labels_cmp r.placements) c.in_ok-key.ensures.cases ∙ ap (λ (v : Rostered). number_of route_labels_cmp v.placements route_labels) c.self.view_is ∙ c.requires in
-    let gets : GetsNumber route_labels_cmp r.placements c.make_place.new.self c.in_ok-key.key (next_number r.placements) = c.in_ok-make_place.ensures.number (unplaced route_labels_cmp r.placements c.in_ok-key.key new) in
+    let gets : GetsNumber route_labels_cmp r.placements c.make_place.new.self c.in_ok-key.key (next_number r.placements) = c.in_ok-number.ensures.number (unplaced route_labels_cmp r.placements c.in_ok-key.key new) in
     let roomy : IsGrouped r.config r.placements r.groups k = grouped_same r.config r.placements r.groups r.members c.self.invariant r.placements r.groups k refl refl refl refl c.reserve_numbers.ensures.same c.reserve_numbers.ensures.more (omega (arith, c.reserve_numbers.ensures.groups)) in
     grouped_placed r.config r.placements r.groups k roomy c.make_place.new.self c.in_ok-key.key c.count_with_next.ensures.numbering new gets c.make_place.ensures.shown (omega (arith, c.in_ok-reserve_numbers.ensures.room, c.in_ok-count.ensures.count))
 

@@ -1,10 +1,10 @@
-use Rattle.std.proofs.Common.{◌<◌, length, refl, sym, ap, subst, ◌∙◌}
-use Rattle.amr_labels.specs.Labels.{LabelSet, label_set_cmp, label_set_cmp_total}
+use Rattle.std.proofs.Common.{◌<◌, length, refl, ap, subst, ◌∙◌}
+use Rattle.amr_labels.specs.Labels.{LabelSet, label_set_cmp}
 use Rattle.amr_rules.specs.declared.alert.Alert.{Alert}
 use Rattle.amr_tables.specs.Numbered.{Numbered, number_of, next_number, rank_of, IsNumbering}
 use Rattle.amr_tables.specs.Earliest.{IsOrdered}
 use Rattle.amr_engine.specs.State.Timed.{Timed, IsTimed}
-use Rattle.amr_engine.proofs.StateLemmas.Scheduling.{alerts_same, alert_placed, got, not_none}
+use Rattle.amr_engine.proofs.StateLemmas.Scheduling.{alerts_same, alert_placed}
 use Rattle.amr_engine.proofs.state.timetable.Timetable.add_alert.Goals as goal
 
 pub invariant_of-self : goal.invariant_of-self
@@ -14,19 +14,12 @@ invariant_of-self c =
     let ordered = subst (λ (v : Numbered LabelSet Alert). IsOrdered (rank_of label_set_cmp v) r) c.by_number.ensures c.make_room.ensures.kept in
     alerts_same t.alerts t.timers t.alert_removals t.group_removals t.flushes c.self.invariant t.alerts refl refl r c.make_room.ensures.same c.make_room.ensures.more c.make_room.ensures.held ordered
 
-pub invariant_of-self-in_err-make_place : goal.invariant_of-self-in_err-make_place
-invariant_of-self-in_err-make_place c =
+pub invariant_of-self-in_err-number : goal.invariant_of-self-in_err-number
+invariant_of-self-in_err-number c =
     let t = c.self.inside in
     let r = c.make_room.new.moments in
     let ordered = subst (λ (v : Numbered LabelSet Alert). IsOrdered (rank_of label_set_cmp v) r) c.by_number.ensures c.make_room.ensures.kept in
-    alerts_same t.alerts t.timers t.alert_removals t.group_removals t.flushes c.self.invariant c.make_place.new.self c.in_err-make_place.ensures.kept c.make_place.ensures.shown r c.make_room.ensures.same c.make_room.ensures.more c.make_room.ensures.held ordered
-
-pub unreachable-requires : goal.unreachable-requires
-unreachable-requires c =
-    let t = c.self.inside in
-    let labels = c.args.labels.now in
-    not_none (next_number t.alerts) _ (sym (got label_set_cmp t.alerts c.make_place.new.self label_set_cmp_total labels (next_number t.alerts) c.in_ok-make_place.ensures.number)
-    ∙ sym (ap (λ (v : Numbered LabelSet Alert). number_of label_set_cmp v labels) c.by_number-2.ensures) ∙ sym c.number_of.ensures.number ∙ c.in-None.is)
+    alerts_same t.alerts t.timers t.alert_removals t.group_removals t.flushes c.self.invariant c.make_place.new.self c.in_err-number.ensures.kept c.make_place.ensures.shown r c.make_room.ensures.same c.make_room.ensures.more c.make_room.ensures.held ordered
 
 pub invariant_of-self-2 : goal.invariant_of-self-2
 invariant_of-self-2 c =
@@ -37,6 +30,6 @@ invariant_of-self-2 c =
     let roomy : IsTimed t.alerts t.timers r t.group_removals t.flushes = alerts_same t.alerts t.timers t.alert_removals t.group_removals t.flushes c.self.invariant t.alerts refl refl r c.make_room.ensures.same c.make_room.ensures.more c.make_room.ensures.held ordered in
     alert_placed t.alerts t.timers r t.group_removals t.flushes roomy c.make_place.new.self labels
     (subst (IsNumbering label_set_cmp) c.by_number.ensures c.make_room.ensures.numbering)
-    (subst (IsNumbering label_set_cmp) c.by_number-2.ensures c.number_of.ensures.numbering)
-    (ap (λ (v : Timed). number_of label_set_cmp v.alerts labels) c.self.view_is ∙ c.requires) c.in_ok-make_place.ensures.number c.make_place.ensures.shown
+    c.in_ok-number.ensures.numbering
+    (ap (λ (v : Timed). number_of label_set_cmp v.alerts labels) c.self.view_is ∙ c.requires) c.in_ok-number.ensures.number c.make_place.ensures.shown
     (subst (λ (v : Numbered LabelSet Alert). next_number v < length r.moments) c.by_number.ensures c.in_ok-make_room.ensures.room)
