@@ -4,8 +4,9 @@ use Rattle.std.specs.Bool.{Decides}
 use Rattle.std.specs.declared.cmp.Ordering.{Ordering}
 use Rattle.std.specs.Cmp.{IsTotalOrder}
 use Rattle.std.specs.Cmp.Lexicographic.{slice_cmp, lists_total}
+use Rattle.std.specs.FinMap.{IsAntisymmetric, slice_cmp-IsAntisymmetric}
 use Rattle.amr_labels.specs.Hashes.{text_fnv_hash}
-use Rattle.amr_labels.specs.Matcher.Matchers.{Matcher, matcher_cmp, matcher_cmp_total}
+use Rattle.amr_labels.specs.Matcher.Matchers.{Matcher, matcher_cmp, matcher_cmp_total, matcher_cmp-IsAntisymmetric}
 use Rattle.amr_config.specs.Stated.Config.{Config}
 use Rattle.amr_config.specs.Routing.{path_of}
 
@@ -19,6 +20,9 @@ path_cmp a b = slice_cmp (slice_cmp matcher_cmp) a b
 
 pub path_cmp_total : IsTotalOrder path_cmp
 path_cmp_total = lists_total (lists_total matcher_cmp_total)
+
+pub path_cmp-IsAntisymmetric : IsAntisymmetric path_cmp
+path_cmp-IsAntisymmetric = slice_cmp-IsAntisymmetric (slice_cmp-IsAntisymmetric matcher_cmp-IsAntisymmetric)
 
 -- ---- hashes of paths: only the speed of look-ups depends on them
 

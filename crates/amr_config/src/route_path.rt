@@ -11,6 +11,7 @@ use amr_labels::matcher::{Matcher, Matchers};
 use amr_labels::{Exact, Listing, Shared, fnv_hash};
 use std::alloc::{AllocError, Global};
 use std::cmp::Ordering;
+use std::hash::{Hash, Hasher};
 use std::marker::Model;
 
 /// The matchers of each route from the root down to one. Contracts see the matchers. Clones share
@@ -170,8 +171,9 @@ impl PartialEq for RoutePath {
 
     ghost laws = { Prim.search (comparing, rules, path_cmp_total) };
 
+    #[tactic(auto, using(amr_labels::proofs::EqualLists::pointwise_by_cmp))]
     fn eq(&self, other: &RoutePath) -> bool {
-        self.cmp(other) == Ordering::Equal
+        self.get().as_slice() == other.get().as_slice()
     }
 }
 
@@ -200,5 +202,20 @@ impl PartialOrd for RoutePath {
 
     fn partial_cmp(&self, other: &RoutePath) -> Option<Ordering> {
         Some(self.cmp(other))
+    }
+}
+
+impl Hash for RoutePath {
+    ghost use Rattle.std.specs.Hash as fed;
+    ghost use Rattle.std.proofs.Common.{ap};
+    ghost use Rattle.std.proofs.lemmas.Map.Views.{tells_apart};
+    ghost use Rattle.amr_config.specs.Paths.{path_hash, path_cmp-IsAntisymmetric};
+
+    ghost hash_input = { λ path. fed.usize (path_hash path) };
+
+    ghost respects_eq = { λ x y h. ap (λ path. fed.usize (path_hash path)) (tells_apart path_cmp-IsAntisymmetric x y h) };
+
+    fn hash<H: Hasher>(&self, state: &mut H) {
+        state.write_usize(self.hash_value());
     }
 }

@@ -1,4 +1,5 @@
 pub mod Ascending
+pub mod EqualLists
 pub mod Firsts
 pub mod Heads
 pub mod Pairs

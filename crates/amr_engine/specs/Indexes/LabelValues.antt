@@ -1,11 +1,10 @@
 -- Values of the labels in `equal` of an inhibition rule.
-use Rattle.std.specs.Prelude.{ℕ, ◌+◌, ◌*◌, ◌%◌, ◌^◌, List, map, fold}
+use Rattle.std.specs.Prelude.{List, map}
 use Rattle.std.specs.declared.cmp.Ordering.{Ordering}
 use Rattle.std.specs.Cmp.{IsTotalOrder}
 use Rattle.std.specs.Cmp.Lexicographic.{slice_cmp, lists_total, nat_list_cmp_total}
 use Rattle.std.specs.FinMap.{IsAntisymmetric, slice_cmp-IsAntisymmetric}
 use Rattle.amr_labels.specs.Labels.{Text, text_cmp, text_cmp-IsAntisymmetric, LabelSet, value_of}
-use Rattle.amr_labels.specs.Hashes.{text_fnv_hash}
 
 -- lists of values, in the order of the names that they are the values of
 abbrev pub values_cmp : List Text → List Text → Ordering
@@ -20,7 +19,3 @@ values_cmp-IsAntisymmetric = slice_cmp-IsAntisymmetric text_cmp-IsAntisymmetric
 -- the values of these labels in a label set, an absent label being empty
 abbrev pub label_values : List Text → LabelSet → List Text
 label_values names labels = map (value_of labels) names
-
--- A hash of a list of values. Nothing but the speed of look-ups depends on it.
-unfoldable pub values_hash : List Text → ℕ
-values_hash values = fold (λ hash_value text. (hash_value * 31 % 2 ^ 64 + text_fnv_hash text) % 2 ^ 64) 0 values

@@ -5,15 +5,15 @@ use Rattle.std.specs.Option.{option_map_or}
 use Rattle.std.specs.declared.cmp.Ordering.{Ordering}
 use Rattle.std.specs.Ordering.{nat_cmp, ordering_then, eq_by_cmp}
 use Rattle.std.specs.Cmp.{IsTotalOrder, nat_cmp_total}
-use Rattle.std.specs.Cmp.Lexicographic.{slice_cmp, lists_total, nat_list_cmp_total}
+use Rattle.std.specs.Cmp.Lexicographic.{nat_list_cmp_total}
 use Rattle.std.proofs.lemmas.Cmp.{on_total, then_total}
 use Rattle.amr_labels.specs.Map.{Map, get, insert, entries, empty}
-use Rattle.std.specs.FinMap.{IsAntisymmetric, slice_cmp-IsAntisymmetric}
+use Rattle.std.specs.FinMap.{IsAntisymmetric}
 use Rattle.std.proofs.Common.{ap}
 use Rattle.std.proofs.lemmas.Map.Lookups.{exact_pairs, exact_bytes, exact_unsigned}
 use Rattle.amr_labels.specs.Labels.{Text, text_cmp, LabelSet, label_set_cmp, label_set_cmp_total, label_set_cmp-IsAntisymmetric}
-use Rattle.amr_labels.specs.Matcher.Matchers.{Matcher, matcher_cmp, matcher_cmp_total, matcher_cmp-IsAntisymmetric}
 use Rattle.amr_time.specs.Time.{Moment, Span}
+use Rattle.amr_config.specs.Paths.{Path, path_cmp, path_cmp_total, path_cmp-IsAntisymmetric}
 use Rattle.amr_config.specs.Stated.Config.{Config}
 use Rattle.amr_config.specs.Routing.{chosen_routes, group_of, group_wait_of}
 use Rattle.amr_rules.specs.declared.alert.Alert.{Alert}
@@ -45,36 +45,30 @@ pub route_labels_cmp-IsAntisymmetric : IsAntisymmetric route_labels_cmp
 route_labels_cmp-IsAntisymmetric a b tie =
     ap (λ (p : ℕ × LabelSet). on_route p.0 p.1) (exact_pairs nat_cmp label_set_cmp exact_unsigned label_set_cmp-IsAntisymmetric (a.route, a.labels) (b.route, b.labels) tie)
 
--- the order of two keys of one integration: by group labels, then by path
-abbrev pub log_key_cmp_group : LogKey → LogKey → Ordering
-log_key_cmp_group a b = ordering_then (label_set_cmp a.group b.group) (slice_cmp (slice_cmp matcher_cmp) a.path b.path)
-
--- the order of two keys of one receiver: by integration, then by group labels and path
-abbrev pub log_key_cmp_integration : LogKey → LogKey → Ordering
-log_key_cmp_integration a b = ordering_then (text_cmp a.kind b.kind) (ordering_then (nat_cmp a.place b.place) (log_key_cmp_group a b))
-
 -- by receiver, integration, group labels and path
 abbrev pub log_key_cmp : LogKey → LogKey → Ordering
-log_key_cmp a b = ordering_then (text_cmp a.receiver b.receiver) (log_key_cmp_integration a b)
+log_key_cmp a b =
+    ordering_then (text_cmp a.receiver b.receiver) (ordering_then (text_cmp a.kind b.kind) (ordering_then (nat_cmp a.place b.place)
+    (ordering_then (label_set_cmp a.group b.group) (path_cmp a.path b.path))))
 
 pub log_key_cmp_total : IsTotalOrder log_key_cmp
 log_key_cmp_total =
     then_total (on_total (λ (key : LogKey). key.receiver) nat_list_cmp_total) (then_total (on_total (λ (key : LogKey). key.kind) nat_list_cmp_total)
     (then_total (on_total (λ (key : LogKey). key.place) nat_cmp_total) (then_total (on_total (λ (key : LogKey). key.group) label_set_cmp_total)
-    (on_total (λ (key : LogKey). key.path) (lists_total (lists_total matcher_cmp_total))))))
+    (on_total (λ (key : LogKey). key.path) path_cmp_total))))
 
-abbrev log_key_parts : LogKey → Text × (Text × (ℕ × (LabelSet × List (List Matcher))))
+abbrev log_key_parts : LogKey → Text × (Text × (ℕ × (LabelSet × Path)))
 log_key_parts key = (key.receiver, (key.kind, (key.place, (key.group, key.path))))
 
-log_key_of_parts : Text × (Text × (ℕ × (LabelSet × List (List Matcher)))) → LogKey
+log_key_of_parts : Text × (Text × (ℕ × (LabelSet × Path))) → LogKey
 log_key_of_parts parts = record { receiver = parts.0; kind = parts.1.0; place = parts.1.1.0; group = parts.1.1.1.0; path = parts.1.1.1.1 }
 
 pub log_key_cmp-IsAntisymmetric : IsAntisymmetric log_key_cmp
 unfolding log_key_of_parts
 log_key_cmp-IsAntisymmetric a b tie =
     ap log_key_of_parts (exact_pairs text_cmp _ exact_bytes (exact_pairs text_cmp _ exact_bytes (exact_pairs nat_cmp _ exact_unsigned
-    (exact_pairs label_set_cmp (slice_cmp (slice_cmp matcher_cmp)) label_set_cmp-IsAntisymmetric
-    (slice_cmp-IsAntisymmetric (slice_cmp-IsAntisymmetric matcher_cmp-IsAntisymmetric))))) (log_key_parts a) (log_key_parts b) tie)
+    (exact_pairs label_set_cmp path_cmp label_set_cmp-IsAntisymmetric path_cmp-IsAntisymmetric)))
+    (log_key_parts a) (log_key_parts b) tie)
 
 -- The state of the replayed instance: the clock, the configuration in force, the stored alerts,
 -- silences, members and timers of groups, the notification log, and the notifications so far.

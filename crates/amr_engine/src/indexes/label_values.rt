@@ -4,12 +4,11 @@ ghost use Rattle.std.specs.Prelude.{◌≡◌, [], IfOk, OnOk};
 ghost use Rattle.std.proofs.Common.{rules};
 ghost use Rattle.std.specs.Cmp.{partial_order_from_own_ties};
 ghost use Rattle.std.specs.Cmp.Rules.{comparing};
-ghost use Rattle.std.specs.Cmp.Lexicographic.{lists_total, nat_list_cmp_total};
 ghost use Rattle.std.specs.Ordering.{as_partial_cmp, eq_by_cmp};
 ghost use Rattle.amr_labels.specs.Labels.{value_of};
-ghost use Rattle.amr_engine.specs.Indexes.LabelValues.{values_cmp, values_cmp_total, values_cmp-IsAntisymmetric, label_values, values_hash};
+ghost use Rattle.amr_engine.specs.Indexes.LabelValues.{values_cmp, values_cmp_total, values_cmp-IsAntisymmetric, label_values};
 
-use amr_labels::{Exact, Labels, Listing, Text, fnv_hash};
+use amr_labels::{Exact, Labels, Listing, Text};
 use amr_tables::Key;
 use std::alloc::{AllocError, Global};
 use std::cmp::Ordering;
@@ -67,8 +66,9 @@ impl PartialEq for LabelValues {
 
     ghost laws = { Prim.search (comparing, rules, values_cmp_total) };
 
+    #[tactic(auto, using(amr_labels::proofs::EqualLists::pointwise_by_cmp))]
     fn eq(&self, other: &LabelValues) -> bool {
-        self.cmp(other) == Ordering::Equal
+        self.texts.as_slice() == other.texts.as_slice()
     }
 }
 
@@ -104,14 +104,14 @@ impl Hash for LabelValues {
     ghost use Rattle.std.specs.Hash as fed;
     ghost use Rattle.std.proofs.Common.{ap};
     ghost use Rattle.std.proofs.lemmas.Map.Views.{tells_apart};
-    ghost use Rattle.amr_engine.specs.Indexes.LabelValues.{values_cmp-IsAntisymmetric, values_hash};
+    ghost use Rattle.amr_engine.specs.Indexes.LabelValues.{values_cmp-IsAntisymmetric};
 
-    ghost hash_input = { λ values. fed.usize (values_hash values) };
+    ghost hash_input = { fed.slice fed.str };
 
-    ghost respects_eq = { λ x y h. ap (λ values. fed.usize (values_hash values)) (tells_apart values_cmp-IsAntisymmetric x y h) };
+    ghost respects_eq = { λ x y h. ap (fed.slice fed.str) (tells_apart values_cmp-IsAntisymmetric x y h) };
 
     fn hash<H: Hasher>(&self, state: &mut H) {
-        state.write_usize(hash_of_texts(self.texts.as_slice()));
+        self.texts.as_slice().hash(state);
     }
 }
 
@@ -127,18 +127,4 @@ fn label_value(alloc: Global, name: &Text, labels: &Labels) -> Result<Text, Allo
         Some(value) => value.clone(),
         None => Text::from_str(alloc, ""),
     }
-}
-
-/// Returns a hash of a list of values.
-#[tactic(auto, unfolding(crate::specs::Indexes::LabelValues::values_hash))]
-fn hash_of_texts(texts: &[Text]) -> usize
-    ensures { result ≡ values_hash texts.now }
-{
-    let mut hash_value: usize = 0;
-    for text in texts {
-        hash_value = hash_value
-            .wrapping_mul(31)
-            .wrapping_add(fnv_hash(text.as_str()));
-    }
-    hash_value
 }

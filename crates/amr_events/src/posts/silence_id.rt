@@ -1,22 +1,16 @@
 //! The ids of silences, which are UUIDs. Scripts give them; none is made here, because nothing here
 //! is random.
 ghost use Rattle.std.specs.Prelude.{◌≡◌, IfOk, option_map, string_bytes};
-ghost use Rattle.std.proofs.Common.{rules};
-ghost use Rattle.std.specs.Cmp.{partial_order_from_own_ties};
-ghost use Rattle.std.specs.Cmp.Rules.{comparing};
-ghost use Rattle.std.specs.Ordering.{as_partial_cmp, nat_cmp, eq_by_cmp};
 ghost use Rattle.amr_events.specs.Posts.Ids.{id_of, id_text};
 
 use amr_labels::Exact;
 use amr_tables::Key;
 use std::alloc::{AllocError, Global};
-use std::cmp::Ordering;
-use std::hash::{Hash, Hasher};
 use std::marker::Model;
 use uuid::Uuid;
 
 /// The id of a silence: the 128 bits of its UUID.
-#[derive(Clone, Copy)]
+#[derive(Clone, Copy, PartialEq, Eq, PartialOrd, Ord, Hash)]
 pub struct SilenceId {
     bits: u128,
 }
@@ -58,62 +52,8 @@ impl SilenceId {
     }
 }
 
-impl PartialEq for SilenceId {
-    ghost eq = { eq_by_cmp nat_cmp };
-
-    ghost laws = { Prim.search (comparing, rules) };
-
-    fn eq(&self, other: &SilenceId) -> bool {
-        self.cmp(other) == Ordering::Equal
-    }
-}
-
-impl Eq for SilenceId {
-    ghost laws = { Prim.search (comparing, rules) };
-}
-
-impl Ord for SilenceId {
-    ghost cmp = { nat_cmp };
-
-    ghost total = { Prim.search (comparing, rules) };
-
-    ghost matches_partial_cmp = { Prim.search (comparing, rules) };
-
-    ghost matches_eq = { Prim.search (comparing, rules) };
-
-    fn cmp(&self, other: &SilenceId) -> Ordering {
-        let ours = self.bits;
-        ours.cmp(&other.bits)
-    }
-}
-
-impl PartialOrd for SilenceId {
-    ghost partial_cmp = { as_partial_cmp nat_cmp };
-
-    ghost laws = { partial_order_from_own_ties (Prim.search (comparing, rules)) (Prim.search (comparing, rules)) };
-
-    fn partial_cmp(&self, other: &SilenceId) -> Option<Ordering> {
-        Some(self.cmp(other))
-    }
-}
-
 impl Exact for SilenceId {
     ghost exact = { λ x y same. same };
-}
-
-impl Hash for SilenceId {
-    ghost use Rattle.std.specs.FinMap.{nat_cmp-IsAntisymmetric};
-    ghost use Rattle.std.specs.Hash as fed;
-    ghost use Rattle.std.proofs.Common.{ap};
-    ghost use Rattle.std.proofs.lemmas.Map.Views.{tells_apart};
-
-    ghost hash_input = { fed.u128 };
-
-    ghost respects_eq = { λ x y h. ap fed.u128 (tells_apart nat_cmp-IsAntisymmetric x y h) };
-
-    fn hash<H: Hasher>(&self, state: &mut H) {
-        state.write_u128(self.bits);
-    }
 }
 
 impl Key for SilenceId {

@@ -148,7 +148,9 @@ impl PartialEq for Matcher {
     ghost laws = { Prim.search (comparing, rules, matcher_cmp_total) };
 
     fn eq(&self, other: &Matcher) -> bool {
-        self.cmp(other) == Ordering::Equal
+        self.value() == other.value()
+            && self.name == other.name
+            && rank(self.operator()) == rank(other.operator())
     }
 }
 

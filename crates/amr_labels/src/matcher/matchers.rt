@@ -118,8 +118,9 @@ impl PartialEq for Matchers {
 
     ghost laws = { Prim.search (comparing, rules, lists_total matcher_cmp_total) };
 
+    #[tactic(auto, using(crate::proofs::EqualLists::pointwise_by_cmp))]
     fn eq(&self, other: &Matchers) -> bool {
-        self.cmp(other) == Ordering::Equal
+        self.as_slice() == other.as_slice()
     }
 }
 

@@ -1,7 +1,7 @@
 use Rattle.std.proofs.Common.{◌≡◌, ◌||◌, ℕ, Some, ap, ◌∙◌}
 use Rattle.std.specs.Ordering.{nat_cmp, eq_by_cmp}
 use Rattle.amr_labels.specs.Map as map
-use Rattle.amr_tables.specs.Numbered.{Numbered, map_of, number_of, is_entered}
+use Rattle.amr_tables.specs.Numbered.{Numbered, map_of, number_of, has_place, is_entered}
 use Rattle.amr_rules.specs.declared.silence.Silence.{Silence}
 use Rattle.amr_rules.specs.Silences.{Silences}
 use Rattle.amr_engine.specs.Indexes.CachedSilences.{change_of}
@@ -47,3 +47,6 @@ returns-clause-entered c =
     let id = c.args.id.now in
     let at : number_of nat_cmp c.self.inside.silences id ≡ Some c.args.number = ap (λ (v : Numbered ℕ Silence). number_of nat_cmp v id) c.self.view_is ∙ c.requires in
     λ other. c.swap_at.ensures.entered id at other ∙ ap (λ (v : Numbered ℕ Silence). eq_by_cmp nat_cmp other id || is_entered nat_cmp v other) c.self.view_is
+
+pub returns-clause-places : goal.returns-clause-places
+returns-clause-places c = λ key. c.swap_at.ensures.places key ∙ ap (λ (v : Numbered ℕ Silence). has_place nat_cmp v key) c.self.view_is

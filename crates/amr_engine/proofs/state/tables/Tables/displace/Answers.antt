@@ -1,14 +1,16 @@
-use Rattle.std.proofs.Common.{◌≡◌, ℕ, true, Some, subst, sym, ap, ◌∙◌, not}
+use Rattle.std.proofs.Common.{◌≡◌, ℕ, true, IsTrue, Some, subst, sym, ap, ◌∙◌, not}
 use Rattle.std.specs.Prelude.{◌||◌}
 use Rattle.std.specs.declared.cmp.Ordering.{Ordering}
 use Rattle.std.specs.Ordering.{is_eq}
 use Rattle.std.specs.Cmp.{IsTotalOrder, tied_itself}
 use Rattle.amr_labels.specs.Labels.{label_set_cmp, label_set_cmp_total}
 use Rattle.amr_tables.specs.Numbered.{Numbered, number_of, is_entered, EntersAt}
+use Rattle.amr_engine.specs.declared.state.change.Change.TheVariants.{OfLog}
 use Rattle.amr_engine.specs.declared.state.tables.Tables.{Tables}
 use Rattle.amr_engine.specs.State.State.{member_on_route, route_labels_cmp, route_labels_cmp_total, log_key_cmp, log_key_cmp_total}
+use Rattle.amr_engine.specs.State.Records.{after_change, change_back}
 use Rattle.amr_engine.specs.State.Fitting.{is_config}
-use Rattle.amr_engine.specs.State.Stored.{IsPlaceOf, is_marked_at}
+use Rattle.amr_engine.specs.State.Stored.{shown_by, IsPlaceOf, is_marked_at}
 use Rattle.amr_engine.proofs.state.tables.Tables.displace.Goals as goal
 
 pub swap_alert-requires : goal.swap_alert-requires
@@ -51,3 +53,32 @@ returns-in-OfLog-clause-marked c =
     subst (λ e. is_marked_at after e ≡ not (is_config e)) (sym c.in-OfLog.is)
     (marked_now log_key_cmp log_key_cmp_total c.args.self.now.log c.swap_at-in-OfLog.new.self c.args.number c.in-OfLog.field-0 c.swap_at-in-OfLog.ensures.entered
     (subst (λ e. IsPlaceOf c.args.self.now e c.args.number) c.in-OfLog.is c.requires.number))
+
+pub returns-in-OfLog-clause-state : goal.returns-in-OfLog-clause-state
+returns-in-OfLog-clause-state c =
+    let after : Tables = record c.args.self.now { log = c.swap_at-in-OfLog.new.self } in
+    subst (λ e. shown_by after ≡ after_change (shown_by c.args.self.now) e) (sym c.in-OfLog.is)
+    (λ i. record (shown_by c.args.self.now) {
+      log = c.swap_at-in-OfLog.ensures.shown c.in-OfLog.field-0 (subst (λ e. IsPlaceOf c.args.self.now e c.args.number) c.in-OfLog.is c.requires.number) i;
+    })
+
+pub returns-in-OfLog-clause-back : goal.returns-in-OfLog-clause-back
+returns-in-OfLog-clause-back c =
+    subst (λ e. OfLog c.in-OfLog.field-0 c.swap_at-in-OfLog.new.value ≡ change_back (shown_by c.args.self.now) e) (sym c.in-OfLog.is)
+    (ap (λ value. OfLog c.in-OfLog.field-0 value)
+    (c.swap_at-in-OfLog.ensures.former c.in-OfLog.field-0 (subst (λ e. IsPlaceOf c.args.self.now e c.args.number) c.in-OfLog.is c.requires.number)))
+
+pub returns-in-OfLog-clause-was_marked : goal.returns-in-OfLog-clause-was_marked
+returns-in-OfLog-clause-was_marked c =
+    subst (λ e. c.swap_at-in-OfLog.result ≡ is_marked_at c.args.self.now e) (sym c.in-OfLog.is)
+    (c.swap_at-in-OfLog.ensures.was_entered c.in-OfLog.field-0 (subst (λ e. IsPlaceOf c.args.self.now e c.args.number) c.in-OfLog.is c.requires.number))
+
+pub returns-in-OfLog-clause-places : goal.returns-in-OfLog-clause-places
+returns-in-OfLog-clause-places c = record {
+  alerts = λ k h. h;
+  silences = λ k h. h;
+  placements = λ k h. h;
+  groups = λ k h. h;
+  timers = λ k h. h;
+  log = λ k h. subst IsTrue (sym (c.swap_at-in-OfLog.ensures.places k)) h;
+}

@@ -1,4 +1,5 @@
 use Rattle.std.proofs.Common.{sym, ap, subst, ◌∙◌}
+use Rattle.std.specs.Ordering.{nat_cmp}
 use Rattle.amr_tables.specs.Numbered.{number_of}
 use Rattle.amr_engine.specs.State.State.{route_labels_cmp, member_on_route}
 use Rattle.amr_engine.specs.State.Stored.{IsSound, IsPlaceOf}
@@ -14,3 +15,12 @@ pub returns-in-OfTimer : goal.returns-in-OfTimer
 returns-in-OfTimer c =
     subst (λ e. IsPlaceOf c.args.self.now e c.number_in-in-OfTimer.result) (sym c.in-OfTimer.is)
     (ap (λ t. number_of route_labels_cmp t c.in-OfTimer.group) (sym c.timers.ensures) ∙ c.number_in-in-OfTimer.ensures)
+
+pub returns-in-OfSilence : goal.returns-in-OfSilence
+returns-in-OfSilence c =
+    subst (λ e. IsPlaceOf c.args.self.now e c.number_in-in-OfSilence.result) (sym c.in-OfSilence.is)
+    (ap (λ t. number_of nat_cmp t c.in-OfSilence.id) (sym c.silences.ensures) ∙ c.number_in-in-OfSilence.ensures)
+
+pub returns-in-OfLog : goal.returns-in-OfLog
+returns-in-OfLog c =
+    subst (λ e. IsPlaceOf c.args.self.now e c.number_in-in-OfLog.result) (sym c.in-OfLog.is) c.number_in-in-OfLog.ensures
