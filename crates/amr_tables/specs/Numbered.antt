@@ -87,10 +87,6 @@ module _ {K V : Type 0} where
     abbrev pub KeepsPlaces : Numbered K V → Numbered K V → Type 0
     KeepsPlaces old changed = (key : K) → IsTrue (has_place old key) → IsTrue (has_place changed key)
 
-    -- the key has a place, and so has each key that had one before
-    abbrev pub GetsPlace : Numbered K V → Numbered K V → K → Type 0
-    GetsPlace old changed key = (other : K) → has_place changed other ≡ (eq_by_cmp R other key || has_place old other)
-
     -- the key gets this number, and each other key keeps its own
     abbrev pub GetsNumber : Numbered K V → Numbered K V → K → ℕ → Type 0
     GetsNumber old changed key n = (other : K) → number_of changed other ≡ (if eq_by_cmp R other key then Some n else number_of old other)

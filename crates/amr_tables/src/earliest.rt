@@ -9,7 +9,6 @@ ghost use Rattle.amr_tables.specs.Tournament.{first_of};
 ghost use Rattle.amr_tables.specs.Tournament as tournament;
 ghost use Rattle.amr_tables.specs.Earliest.{moment_at, StandsIn, IsHeld, IsCurrent, IsOutdated, IsFrontCurrent, IsWinnerCurrent, are_in_order, is_in_order, AreKept, IsOrdered, IsEarliest};
 
-use crate::moment::is_same;
 use crate::ranking::Ranking;
 use crate::tournament::Tournament;
 use std::alloc::{AllocError, Global};
@@ -113,7 +112,7 @@ impl Earliest {
         ensures held { (n : ℕ) → IsHeld self.new n → IsHeld self.old n ⊎ (n ≡ number) }
         ensures kept { IsOrdered (O.rank order.now) self.new }
     {
-        if is_same(self.at(number), moment) {
+        if self.at(number) == moment {
             return;
         }
         match moment {
@@ -247,7 +246,7 @@ impl Earliest {
     {
         match standing {
             None => false,
-            Some(standing) => !is_same(self.at(standing.number), Some(standing.moment)),
+            Some(standing) => self.at(standing.number) != Some(standing.moment),
         }
     }
 
@@ -273,7 +272,7 @@ impl Earliest {
         ensures none { IfNone result (IsWinnerCurrent self.now) }
     {
         let number = self.rest.first()?;
-        if is_same(self.rest.at(number), self.at(number)) {
+        if self.rest.at(number) == self.at(number) {
             return None;
         }
         Some(number)

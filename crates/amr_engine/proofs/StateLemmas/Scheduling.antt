@@ -11,6 +11,7 @@ use Rattle.std.proofs.lemmas.Bool.{true≢false}
 use Rattle.std.proofs.lemmas.Cmp.{tied_itself, tied_back}
 use Rattle.std.proofs.lemmas.List.{length-set}
 use Rattle.std.proofs.lemmas.Map.Views.{tells_apart}
+use Rattle.std.proofs.lemmas.Option.{same_Some}
 use Rattle.amr_labels.specs.Map.{Map, get, set, empty, get-set, get-empty}
 use Rattle.amr_labels.specs.Labels.{LabelSet, label_set_cmp, label_set_cmp_total, label_set_cmp-IsAntisymmetric}
 use Rattle.amr_rules.specs.declared.alert.Alert.{Alert}
@@ -33,16 +34,13 @@ use Rattle.amr_engine.specs.State.Timed.{AreNumbered, IsScheduled, IsTimed, aler
 use Rattle.amr_engine.proofs.StateLemmas.Least.{sooner, alike}
 use Rattle.amr_engine.proofs.StateLemmas.Timing.{is_at, due_moment, alert_pick, members}
 
-some_same : {A : Type 0} (a b : A) → Some a ≡ Some b → a ≡ b
-some_same a b e = cc
-
 pub not_none : {A : Type 0} (a : A) (P : Type 0) → Some a ≡ None → P
 not_none a P e = cc
 
 not_both : (b : Bool) (P : Type 0) → b ≡ false → b ≡ true → P
 not_both b P off on = absurd (true≢false (sym on ∙ off))
 
-the_value : {A : Type 0} (x : Option A) → IsTrue (is_some x) → (a : A) × (x ≡ Some a)
+pub the_value : {A : Type 0} (x : Option A) → IsTrue (is_some x) → (a : A) × (x ≡ Some a)
 the_value None h = absurd (true≢false (sym h))
 the_value (Some a) h = (a, refl)
 
@@ -79,10 +77,10 @@ module _ {K V : Type 0} {R : K → K → Ordering} (o : IsTotalOrder R) (exact :
         elim (eq_by_cmp R a k) as (λ x. eq_by_cmp R a k ≡ x → (if x then Some n else number_of R t a) ≡ Some m → a ≡ b) [
           | true ↦ λ same_a new_a. elim (eq_by_cmp R b k) as (λ y. eq_by_cmp R b k ≡ y → (if y then Some n else number_of R t b) ≡ Some m → a ≡ b) [
             | true ↦ λ same_b _. tells_apart exact a k same_a ∙ sym (tells_apart exact b k same_b)
-            | false ↦ λ _ old_b. let less = below b m old_b in let same = some_same n m new_a in absurd (omega (arith, less, same))
+            | false ↦ λ _ old_b. let less = below b m old_b in let same = same_Some n m new_a in absurd (omega (arith, less, same))
           ] refl (sym (gets b) ∙ f)
           | false ↦ λ _ old_a. elim (eq_by_cmp R b k) as (λ y. eq_by_cmp R b k ≡ y → (if y then Some n else number_of R t b) ≡ Some m → a ≡ b) [
-            | true ↦ λ _ new_b. let less = below a m old_a in let same = some_same n m new_b in absurd (omega (arith, less, same))
+            | true ↦ λ _ new_b. let less = below a m old_a in let same = same_Some n m new_b in absurd (omega (arith, less, same))
             | false ↦ λ _ old_b. is.apart a b m old_a old_b
           ] refl (sym (gets b) ∙ f)
         ] refl (sym (gets a) ∙ e);
@@ -97,7 +95,7 @@ module _ {K V : Type 0} {R : K → K → Ordering} (o : IsTotalOrder R) (exact :
   -- the key that a number names has it, if a key has it
   number_of_named : (t : Numbered K V) → IsNumbering R t → (n : ℕ) (key : K) → IsNumber R t n → key_at t n ≡ Some key → number_of R t key ≡ Some n
   number_of_named t numbering n key by named =
-      let same : by.0 ≡ key = some_same by.0 key (sym (key_at_number o exact t numbering by.0 n by.1) ∙ named) in
+      let same : by.0 ≡ key = same_Some by.0 key (sym (key_at_number o exact t numbering by.0 n by.1) ∙ named) in
       ap (number_of R t) (sym same) ∙ by.1
 
   -- ---- their moments
@@ -126,7 +124,7 @@ module _ {K V : Type 0} {R : K → K → Ordering} (o : IsTotalOrder R) (exact :
           let value_is : get (map_of R u) key ≡ cond (eq_by_cmp R key k) value (get (map_of R t) key) = ap (λ (m : Map R V). get m key) shows ∙ get-set o (map_of R t) k value key in
           ap (λ l. value_at l m) moments ∙ elim (eq_by_cmp R key k) as (λ b. eq_by_cmp R key k ≡ b → value_at (slice_set e.moments n (moment_of value)) m ≡ moment_of (cond b value (get (map_of R t) key))) [
             | true ↦ λ same.
-                let number : m ≡ n = some_same m n (sym old ∙ ap (number_of R t) (tells_apart exact key k same) ∙ at) in
+                let number : m ≡ n = same_Some m n (sym old ∙ ap (number_of R t) (tells_apart exact key k same) ∙ at) in
                 ap (value_at (slice_set e.moments n (moment_of value))) number ∙ value_set e.moments n (moment_of value) (is.room k n at)
             | false ↦ λ other. value_apart e.moments n m (moment_of value) (λ number. not_both (eq_by_cmp R key k) _ other (
                 ap (λ x. eq_by_cmp R x k) (numbered.apart key k n (old ∙ ap (λ m. Some m) number) at) ∙ ap is_eq (tied_itself o k))) ∙ is.timed key m old
@@ -162,13 +160,13 @@ module _ {K V : Type 0} {R : K → K → Ordering} (o : IsTotalOrder R) (exact :
         record {
           timed = λ key m there. elim (eq_by_cmp R key k) as (λ b. eq_by_cmp R key k ≡ b → (if b then Some n else number_of R t key) ≡ Some m → moment_at e m ≡ moment_of (get (map_of R u) key)) [
             | true ↦ λ same number.
-                ap (moment_at e) (sym (some_same n m number)) ∙ no_moment ∙ sym none ∙ ap moment_of (sym no_value ∙ ap (get (map_of R t)) (sym (tells_apart exact key k same)))
+                ap (moment_at e) (sym (same_Some n m number)) ∙ no_moment ∙ sym none ∙ ap moment_of (sym no_value ∙ ap (get (map_of R t)) (sym (tells_apart exact key k same)))
                 ∙ ap (λ (m : Map R V). moment_of (get m key)) (sym shows)
             | false ↦ λ _ old. is.timed key m old ∙ ap (λ (m : Map R V). moment_of (get m key)) (sym shows)
           ] refl (sym (gets key) ∙ there);
           named = λ m h. let key = is.named m h in (key.0, keeps key.0 m key.1);
           room = λ key m there. elim (eq_by_cmp R key k) as (λ b. (if b then Some n else number_of R t key) ≡ Some m → m < length e.moments) [
-            | true ↦ λ number. let same = some_same n m number in omega (arith, room, same)
+            | true ↦ λ number. let same = same_Some n m number in omega (arith, room, same)
             | false ↦ λ old. is.room key m old
           ] (sym (gets key) ∙ there);
           ordered = ordered_agrees (rank_of R t) (rank_of R u) e (λ a b held_a held_b.
@@ -222,7 +220,7 @@ module _ {K V : Type 0} {R : K → K → Ordering} (o : IsTotalOrder R) (exact :
         → moment_at e n ≡ Some moment → IsEarliest (rank_of R t) e n → key_at t n ≡ Some key → IsFirstMoment (map_of R t) key moment
     first_moment t e n moment key none numbering numbered is at earliest named =
         let number : number_of R t key ≡ Some n = number_of_first t e n key numbering is earliest named in
-        let first : earliest.0 ≡ moment = some_same earliest.0 moment (sym earliest.1 ∙ at) in (
+        let first : earliest.0 ≡ moment = same_Some earliest.0 moment (sym earliest.1 ∙ at) in (
           sym (is.timed key n number) ∙ at,
           λ other x later.
               let found = numbered_moment t e none numbered is other x later in

@@ -165,9 +165,9 @@ impl ToJson for Moment {
     ghost json = { moment_data };
 
     fn push_json(&self, out: &mut String) -> Result<(), AllocError> {
-        out.push_str("\"")?;
+        out.push('"')?;
         push_moment(out, *self)?;
-        out.push_str("\"")
+        out.push('"')
     }
 }
 

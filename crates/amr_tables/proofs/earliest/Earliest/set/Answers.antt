@@ -1,12 +1,12 @@
-use Rattle.std.proofs.Common.{inl, ◌∙◌, ◌<◌, length, sym, subst}
+use Rattle.std.proofs.Common.{rules, inl, ◌∙◌, ◌<◌, length, sym, subst}
 use Rattle.amr_tables.specs.Earliest.{Earliest, IsHeld, AreKept}
 use Rattle.amr_tables.proofs.Placing.{same_value_set}
 use Rattle.amr_tables.proofs.Firsts.{kept_without, held_shorter}
 use Rattle.amr_tables.proofs.earliest.Earliest.set.Goals as goal
 use Rattle.amr_tables.proofs.earliest.Earliest.set.Goals.{in-None, in-Some}
 
-pub returns-then-is_same-clause-moments : goal.returns-then-is_same-clause-moments
-returns-then-is_same-clause-moments g c = same_value_set c.args.self.now.moments c.args.number c.args.moment c.requires.room (sym c.at.ensures ∙ c.is_same.ensures.same c.if-is_same.true)
+pub returns-then-eq-clause-moments : goal.returns-then-eq-clause-moments
+returns-then-eq-clause-moments g c = same_value_set c.args.self.now.moments c.args.number c.args.moment c.requires.room (sym c.at.ensures ∙ search rules)
 
 pub drop_winners-requires : goal.drop_winners-requires
 drop_winners-requires g c =

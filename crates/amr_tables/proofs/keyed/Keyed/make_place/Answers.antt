@@ -1,13 +1,13 @@
 use Rattle.std.proofs.Common.{ℕ, List, ◌+◌, ◌≡◌, None, Some, is_some, length, sym, ap, subst, ◌∙◌, arith, IsTrue}
 use Rattle.std.proofs.lemmas.Bool.{true≢false}
 use Rattle.std.proofs.lemmas.Cmp.{eq_by_cmp_equiv}
-use Rattle.std.specs.Prelude.{◌||◌, if◌then◌else◌}
+use Rattle.std.specs.Prelude.{if◌then◌else◌}
 use Rattle.std.specs.Ordering.{eq_by_cmp}
 use Rattle.std.specs.FinMap.{find, put}
 use Rattle.std.specs.FinMap.Entries.{find-put}
 use Rattle.amr_tables.specs.Numbered.{Numbered, map_of, has_place, is_entered, number_of}
 use Rattle.amr_tables.proofs.Placing.{length-push}
-use Rattle.amr_tables.proofs.Numbering.{added_table, length-added, placed_again, placed-added}
+use Rattle.amr_tables.proofs.Numbering.{added_table, length-added}
 use Rattle.amr_tables.proofs.keyed.Keyed.make_place.Goals as goal
 
 pub invariant_of-self-2 : goal.invariant_of-self-2
@@ -66,23 +66,6 @@ returns-clause-places g c =
     let is : c.insert.new.self.list ≡ put R c.args.key (length t.cells) t.numbers = c.insert.ensures ∙ ap (λ (es : List (g.row.K.Denot × ℕ)). put R c.args.key (length es) es) c.reserve.ensures.list ∙ ap (λ n. put R c.args.key n t.numbers) c.self.invariant.1 in
     let added = added_table R g.met.K.Ord.total t c.args.key c.insert.new.self.list c.add_place.new.self c.self.invariant.0 none is c.in_ok-add_place.ensures.ok in
     λ other p. added.0.placed other (subst (λ v. IsTrue (has_place R v other)) (sym c.self.view_is) p)
-
-pub returns-in-Some-clause-no_other : goal.returns-in-Some-clause-no_other
-unfolding has_place
-returns-in-Some-clause-no_other g c = λ other.
-    let R = g.K.Ord.cmp in
-    placed_again g.met.K.Ord.total c.args.self.now c.args.key other
-    (ap (λ v. has_place R v c.args.key) (sym c.self.view_is) ∙ ap is_some (sym c.get.ensures ∙ c.in-Some.is))
-
-pub returns-clause-no_other : goal.returns-clause-no_other
-unfolding has_place
-returns-clause-no_other g c = λ other.
-    let R = g.K.Ord.cmp in
-    let t : Numbered g.row.K.Denot g.row.V.Denot = record { numbers = c.self.inside.numbers.list; cells = c.add_place.new.self.values; marks = c.add_place.new.self.marks } in
-    let is : c.insert.new.self.list ≡ put R c.args.key (length t.numbers) t.numbers = c.insert.ensures ∙ ap (λ (es : List (g.row.K.Denot × ℕ)). put R c.args.key (length es) es) c.reserve.ensures.list in
-    ap (λ n. has_place R (record t { numbers = n }) other) is
-    ∙ placed-added g.met.K.Ord.total t c.args.key other (length t.numbers)
-    ∙ ap (λ v. eq_by_cmp R other c.args.key || has_place R v other) c.self.view_is
 
 pub returns-in-Some-clause-number : goal.returns-in-Some-clause-number
 unfolding has_place

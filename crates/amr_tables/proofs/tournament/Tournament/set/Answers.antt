@@ -1,4 +1,4 @@
-use Rattle.std.proofs.Common.{◌≡◌, ◌≢◌, ◌<◌, ◌/◌, ◌+◌, length, length-set, refl, slice_set, sym, ap, subst, ◌∙◌, arith}
+use Rattle.std.proofs.Common.{rules, ◌≡◌, ◌≢◌, ◌<◌, ◌/◌, ◌+◌, length, length-set, refl, slice_set, sym, ap, subst, ◌∙◌, arith}
 use Rattle.std.proofs.lemmas.Bool.Decides.{nat_tests}
 use Rattle.amr_tables.specs.Tournament.{Tournament, later_winner, IsTournament}
 use Rattle.amr_tables.proofs.Placing.{same_value_set}
@@ -60,5 +60,5 @@ returns-clause-kept g c =
     let t : Tournament = record { moments = slice_set c.self.inside.moments.items c.args.number c.args.moment; winners = c.self.inside.winners.items } in
     ended (g.O.Ranking.rank c.args.order.now) c.args.number t c.loop-node.self c.loop-node.node c.loop-node.invariant.climbed c.loop-node.invariant.moments (grind (arith, nat_tests))
 
-pub returns-then-is_same-clause-moments : goal.returns-then-is_same-clause-moments
-returns-then-is_same-clause-moments g c = same_value_set c.args.self.now.moments c.args.number c.args.moment c.requires.room (sym c.at.ensures ∙ c.is_same.ensures.same c.if-is_same.true)
+pub returns-then-eq-clause-moments : goal.returns-then-eq-clause-moments
+returns-then-eq-clause-moments g c = same_value_set c.args.self.now.moments c.args.number c.args.moment c.requires.room (sym c.at.ensures ∙ search rules)
