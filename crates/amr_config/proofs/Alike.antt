@@ -3,12 +3,11 @@ use Rattle.std.proofs.Common.{◌≡◌, ℕ, Bool, true, false, not, List, [], 
 use Rattle.std.specs.Prelude.{◌&&◌, zero, suc, nat_lt, nat_eq, ◌==◌, slice_get, option_map}
 use Rattle.std.specs.Bool.{Decides}
 use Rattle.std.specs.Cmp.{IsTotalOrder, unsigned_Decides}
-use Rattle.std.specs.Cmp.Lexicographic.{pointwise, slice_cmp, lists_total, nat_list_cmp_total}
-use Rattle.std.specs.FinMap.{IsAntisymmetric, slice_cmp-IsAntisymmetric}
+use Rattle.std.specs.Cmp.Lexicographic.{pointwise, nat_list_cmp_total}
+use Rattle.std.specs.FinMap.{IsAntisymmetric}
 use Rattle.std.specs.declared.cmp.Ordering.{Ordering}
 use Rattle.std.specs.Ordering.{eq_by_cmp}
 use Rattle.std.proofs.lemmas.Bool.{false≢true}
-use Rattle.std.proofs.lemmas.Bool.Decides.{Decides-at}
 use Rattle.std.proofs.lemmas.Cmp.{eq_by_cmp_equiv}
 use Rattle.std.proofs.lemmas.Map.Views.{tells_apart}
 use Rattle.std.proofs.lemmas.Slice.Eq.{slice_eq-Decides}
@@ -137,8 +136,8 @@ parents_decide None (Some y) = (λ e. absurd (false≢true e), λ e. absurd (non
 parents_decide (Some x) None = (λ e. absurd (false≢true e), λ e. absurd (none-some x (sym e)))
 parents_decide (Some x) (Some y) = (λ e. ap (λ z. Some z) ((unsigned_Decides x y).0 e), λ e. (unsigned_Decides x y).1 (same_Some x y e))
 
-pub matchers_decide : (xs ys : List Matcher) (r : Bool) → r ≡ eq_by_cmp (slice_cmp matcher_cmp) xs ys → Decides r (xs ≡ ys)
-matchers_decide xs ys r is = Decides-at r (eq_by_cmp (slice_cmp matcher_cmp) xs ys) is (tie_decides (lists_total matcher_cmp_total) (slice_cmp-IsAntisymmetric matcher_cmp-IsAntisymmetric) xs ys)
+pub matchers_decide : (xs ys : List Matcher) (r : Bool) → r ≡ pointwise (eq_by_cmp matcher_cmp) xs ys → Decides r (xs ≡ ys)
+matchers_decide = slice_eq-Decides (tie_decides matcher_cmp_total matcher_cmp-IsAntisymmetric)
 
 pub names_decide : (xs ys : List Text) (r : Bool) → r ≡ pointwise (eq_by_cmp text_cmp) xs ys → Decides r (xs ≡ ys)
 names_decide = slice_eq-Decides (tie_decides nat_list_cmp_total text_cmp-IsAntisymmetric)

@@ -1,36 +1,28 @@
 //! The paths of routes, which are part of the notification log's keys. Few log keys differ only in
 //! the path, so paths are compared by their matchers, and have a hash of these.
 ghost use Rattle.std.specs.Prelude.{◌≡◌, [], ◌∷◌, ◌++◌, IfOk};
-ghost use Rattle.std.proofs.Common.{rules};
-ghost use Rattle.std.specs.Cmp.{partial_order_from_own_ties};
-ghost use Rattle.std.specs.Cmp.Rules.{comparing};
-ghost use Rattle.std.specs.Ordering.{as_partial_cmp, eq_by_cmp};
-ghost use Rattle.amr_config.specs.Paths.{path_cmp, path_cmp_total, path_hash, hash_below, hash_with};
+ghost use Rattle.amr_config.specs.Paths.{path_hash, hash_below, hash_with};
 
 use amr_labels::matcher::{Matcher, Matchers};
 use amr_labels::{Exact, Listing, Shared, fnv_hash};
 use std::alloc::{AllocError, Global};
-use std::cmp::Ordering;
 use std::hash::{Hash, Hasher};
 use std::marker::Model;
 
 /// The matchers of each route from the root down to one. Contracts see the matchers. Clones share
 /// them.
 #[derive(Drop)]
+#[derive_where(PartialEq, Eq, PartialOrd, Ord)]
 pub struct RoutePath {
-    shared: Shared<HashedPath>,
-}
-
-/// A path with a number. Contracts see the path.
-#[derive(Drop)]
-struct HashedPath {
-    matchers: Listing<Matchers>,
+    matchers: Shared<Listing<Matchers>>,
     /// A hash of the matchers.
+    #[derive_where(skip)]
     hash_value: usize,
 }
 
-impl Model for HashedPath {
+impl Model for RoutePath {
     ghost use Rattle.std.specs.Prelude.{◌≡◌, List};
+    ghost use Rattle.std.proofs.Common.{sym};
     ghost use Rattle.amr_labels.specs.Matcher.Matchers.{Matcher};
     ghost use Rattle.amr_config.specs.Paths.{path_hash};
 
@@ -39,49 +31,83 @@ impl Model for HashedPath {
     ghost view = { λ path. path.matchers };
 
     ghost invariant = { λ path. path.hash_value ≡ path_hash path.matchers };
+
+    ghost inverse = { λ matchers. record { matchers = matchers; hash_value = path_hash matchers } };
+
+    ghost inverse_ok = { λ path hashed. λ i. record { matchers = path.matchers; hash_value = sym hashed i } };
 }
 
-impl HashedPath {
+impl RoutePath {
     /// Makes the path of a root route with these matchers.
     #[tactic(auto, unfolding(crate::specs::Paths::path_hash))]
-    fn root(alloc: Global, own: Matchers) -> Result<HashedPath, AllocError>
+    pub fn root(alloc: Global, own: Matchers) -> Result<RoutePath, AllocError>
         ensures { IfOk result (λ path. path ≡ own ∷ []) }
     {
         let hash_value = hash_below(0, own.as_slice());
         let mut matchers = Listing::new(alloc);
         matchers.push(own)?;
-        Ok(HashedPath {
-            matchers,
+        Ok(RoutePath {
+            matchers: Shared::new(alloc, matchers)?,
             hash_value,
         })
     }
 
     /// Makes the path of a route with these matchers, below the route of this path.
     #[tactic(auto, using(crate::proofs::PathHashes::hash_more))]
-    fn below(&self, own: Matchers) -> Result<HashedPath, AllocError>
+    pub fn below(&self, alloc: Global, own: Matchers) -> Result<RoutePath, AllocError>
         ensures { IfOk result (λ path. path ≡ self.now ++ own ∷ []) }
     {
         let hash_value = hash_below(self.hash_value, own.as_slice());
-        let mut matchers = self.matchers.clone()?;
+        let mut matchers = self.get().clone()?;
         matchers.push(own)?;
-        Ok(HashedPath {
-            matchers,
+        Ok(RoutePath {
+            matchers: Shared::new(alloc, matchers)?,
             hash_value,
         })
     }
 
-    /// Returns the path.
-    fn matchers(&self) -> &Listing<Matchers>
+    /// Returns the matchers of each route.
+    pub fn get(&self) -> &Listing<Matchers>
         ensures { result.now ≡ self.now }
     {
-        &self.matchers
+        self.matchers.get()
     }
 
-    /// Returns a number made of the path.
-    fn hash_value(&self) -> usize
+    /// Returns a hash of the path.
+    pub fn hash_value(&self) -> usize
         ensures { result ≡ path_hash self.now }
     {
         self.hash_value
+    }
+}
+
+impl Clone for RoutePath {
+    ghost is_clone = { λ a b. b ≡ a };
+
+    fn clone(&self) -> Result<RoutePath, AllocError> {
+        Ok(RoutePath {
+            matchers: self.matchers.clone()?,
+            hash_value: self.hash_value,
+        })
+    }
+}
+
+impl Exact for RoutePath {
+    ghost exact = { λ x y same. same };
+}
+
+impl Hash for RoutePath {
+    ghost use Rattle.std.specs.Hash as fed;
+    ghost use Rattle.std.proofs.Common.{ap, sym, ◌∙◌};
+    ghost use Rattle.std.proofs.lemmas.Map.Views.{tells_apart};
+    ghost use Rattle.amr_config.specs.Paths.{path_hash, path_cmp-IsAntisymmetric};
+
+    ghost hash_input = { λ path. fed.usize (path_hash path) };
+
+    ghost respects_eq = { λ x y h. ap (λ path. fed.usize (path_hash path)) (tells_apart path_cmp-IsAntisymmetric x y (sym (⟦<RoutePath as Ord>⟧.matches_eq x y) ∙ h)) };
+
+    fn hash<H: Hasher>(&self, state: &mut H) {
+        state.write_usize(self.hash_value());
     }
 }
 
@@ -105,117 +131,4 @@ fn hash_with(hash_value: usize, matcher: &Matcher) -> usize
         .wrapping_add(fnv_hash(matcher.name().as_str()))
         .wrapping_mul(31)
         .wrapping_add(fnv_hash(matcher.value().as_str()))
-}
-
-impl Model for RoutePath {
-    ghost use Rattle.std.specs.Prelude.{List};
-    ghost use Rattle.amr_labels.specs.Matcher.Matchers.{Matcher};
-
-    ghost Value = { List (List Matcher) };
-
-    ghost view = { λ path. path.shared };
-}
-
-impl RoutePath {
-    /// Makes the path of a root route with these matchers.
-    pub fn root(alloc: Global, own: Matchers) -> Result<RoutePath, AllocError>
-        ensures { IfOk result (λ path. path ≡ own ∷ []) }
-    {
-        let path = HashedPath::root(alloc, own)?;
-        Ok(RoutePath {
-            shared: Shared::new(alloc, path)?,
-        })
-    }
-
-    /// Makes the path of a route with these matchers, below the route of this path.
-    pub fn below(&self, alloc: Global, own: Matchers) -> Result<RoutePath, AllocError>
-        ensures { IfOk result (λ path. path ≡ self.now ++ own ∷ []) }
-    {
-        let path = self.shared.get().below(own)?;
-        Ok(RoutePath {
-            shared: Shared::new(alloc, path)?,
-        })
-    }
-
-    /// Returns the matchers of each route.
-    pub fn get(&self) -> &Listing<Matchers>
-        ensures { result.now ≡ self.now }
-    {
-        self.shared.get().matchers()
-    }
-
-    /// Returns a hash of the path.
-    pub fn hash_value(&self) -> usize
-        ensures { result ≡ path_hash self.now }
-    {
-        self.shared.get().hash_value()
-    }
-}
-
-impl Clone for RoutePath {
-    ghost is_clone = { λ a b. b ≡ a };
-
-    fn clone(&self) -> Result<RoutePath, AllocError> {
-        Ok(RoutePath {
-            shared: self.shared.clone()?,
-        })
-    }
-}
-
-impl Exact for RoutePath {
-    ghost exact = { λ x y same. same };
-}
-
-impl PartialEq for RoutePath {
-    ghost eq = { eq_by_cmp path_cmp };
-
-    ghost laws = { Prim.search (comparing, rules, path_cmp_total) };
-
-    #[tactic(auto, using(amr_labels::proofs::EqualLists::pointwise_by_cmp))]
-    fn eq(&self, other: &RoutePath) -> bool {
-        self.get().as_slice() == other.get().as_slice()
-    }
-}
-
-impl Eq for RoutePath {
-    ghost laws = { Prim.search (comparing, rules, path_cmp_total) };
-}
-
-impl Ord for RoutePath {
-    ghost cmp = { path_cmp };
-
-    ghost total = { path_cmp_total };
-
-    ghost matches_partial_cmp = { Prim.search (comparing, rules) };
-
-    ghost matches_eq = { Prim.search (comparing, rules) };
-
-    fn cmp(&self, other: &RoutePath) -> Ordering {
-        self.get().as_slice().cmp(other.get().as_slice())
-    }
-}
-
-impl PartialOrd for RoutePath {
-    ghost partial_cmp = { as_partial_cmp path_cmp };
-
-    ghost laws = { partial_order_from_own_ties (Prim.search (comparing, rules, path_cmp_total)) (Prim.search (comparing, rules)) };
-
-    fn partial_cmp(&self, other: &RoutePath) -> Option<Ordering> {
-        Some(self.cmp(other))
-    }
-}
-
-impl Hash for RoutePath {
-    ghost use Rattle.std.specs.Hash as fed;
-    ghost use Rattle.std.proofs.Common.{ap};
-    ghost use Rattle.std.proofs.lemmas.Map.Views.{tells_apart};
-    ghost use Rattle.amr_config.specs.Paths.{path_hash, path_cmp-IsAntisymmetric};
-
-    ghost hash_input = { λ path. fed.usize (path_hash path) };
-
-    ghost respects_eq = { λ x y h. ap (λ path. fed.usize (path_hash path)) (tells_apart path_cmp-IsAntisymmetric x y h) };
-
-    fn hash<H: Hasher>(&self, state: &mut H) {
-        state.write_usize(self.hash_value());
-    }
 }

@@ -1,9 +1,12 @@
 //! A `Vec` that contracts see as a list, for lists that are parts of other values: matchers,
 //! routes, alerts of a notification.
 ghost use Rattle.std.specs.Prelude.{◌≡◌, ◌==◌, List, [], ◌∷◌, ◌++◌, length, OnOk, OnErr};
+ghost use Rattle.std.specs.Cmp.Lexicographic as lists;
 
 use crate::exact::Exact;
 use std::alloc::{AllocError, Global};
+use std::cmp::Ordering;
+use std::hash::{Hash, Hasher};
 use std::marker::Model;
 
 /// A list of values.
@@ -82,4 +85,54 @@ impl<T: Exact + Drop> Clone for Listing<T> {
 
 impl<T: Exact + Drop> Exact for Listing<T> {
     ghost exact = { λ x y same. same };
+}
+
+impl<T: PartialEq> PartialEq for Listing<T> {
+    ghost eq = { lists.pointwise T.eq };
+
+    ghost laws = { lists.lists_per T.laws };
+
+    fn eq(&self, other: &Listing<T>) -> bool {
+        self.items == other.items
+    }
+}
+
+impl<T: Eq> Eq for Listing<T> {
+    ghost laws = { lists.lists_equiv T.Eq.laws };
+}
+
+impl<T: PartialOrd> PartialOrd for Listing<T> {
+    ghost partial_cmp = { lists.slice_partial_cmp T.partial_cmp };
+
+    ghost laws = { lists.lists_po T.PartialOrd.laws };
+
+    fn partial_cmp(&self, other: &Listing<T>) -> Option<Ordering> {
+        self.items.partial_cmp(&other.items)
+    }
+}
+
+impl<T: Ord> Ord for Listing<T> {
+    ghost cmp = { lists.slice_cmp T.cmp };
+
+    ghost total = { lists.lists_total T.total };
+
+    ghost matches_partial_cmp = { lists.lists_agrees T.matches_partial_cmp };
+
+    ghost matches_eq = { lists.lists_ties T.cmp T.matches_eq };
+
+    fn cmp(&self, other: &Listing<T>) -> Ordering {
+        self.items.cmp(&other.items)
+    }
+}
+
+impl<T: Hash> Hash for Listing<T> {
+    ghost use Rattle.std.specs.Hash as fed;
+
+    ghost hash_input = { fed.slice T.hash_input };
+
+    ghost respects_eq = { (fed.items_Alike (record { fed = T.respects_eq })).fed };
+
+    fn hash<H: Hasher>(&self, state: &mut H) {
+        self.items.hash(state);
+    }
 }

@@ -4,6 +4,7 @@ ghost use Rattle.std.specs.Prelude.{◌≡◌, IfOk};
 
 use crate::exact::Exact;
 use std::alloc::{AllocError, Global};
+use std::cmp::Ordering;
 use std::marker::Model;
 use std::rc::Rc;
 
@@ -49,4 +50,42 @@ impl<T: Drop> Clone for Shared<T> {
 
 impl<T: Drop> Exact for Shared<T> {
     ghost exact = { λ x y same. same };
+}
+
+impl<T: PartialEq> PartialEq for Shared<T> {
+    ghost eq = { T.eq };
+
+    ghost laws = { T.laws };
+
+    fn eq(&self, other: &Shared<T>) -> bool {
+        self.held == other.held
+    }
+}
+
+impl<T: Eq> Eq for Shared<T> {
+    ghost laws = { T.Eq.laws };
+}
+
+impl<T: PartialOrd> PartialOrd for Shared<T> {
+    ghost partial_cmp = { T.partial_cmp };
+
+    ghost laws = { T.PartialOrd.laws };
+
+    fn partial_cmp(&self, other: &Shared<T>) -> Option<Ordering> {
+        self.held.partial_cmp(&other.held)
+    }
+}
+
+impl<T: Ord> Ord for Shared<T> {
+    ghost cmp = { T.cmp };
+
+    ghost total = { T.total };
+
+    ghost matches_partial_cmp = { T.matches_partial_cmp };
+
+    ghost matches_eq = { T.matches_eq };
+
+    fn cmp(&self, other: &Shared<T>) -> Ordering {
+        self.held.cmp(&other.held)
+    }
 }

@@ -93,6 +93,7 @@ fn from_now(now: Moment, silence: Silence) -> Silence
 /// Returns whether a stored silence may be updated in place: its matchers don't change, and, if it
 /// is active, the second of its start doesn't either; a pending one may start at any moment from
 /// now on.
+#[tactic(auto, using(amr_labels::proofs::EqualLists::pointwise_by_cmp))]
 fn changes_in_place(now: Moment, old: &Silence, new: &Silence) -> bool
     ensures { result ≡ changes_in_place now old.now new.now }
 {

@@ -1,14 +1,13 @@
 -- What the sides of inhibition rules list, and how they take in label sets.
-use Rattle.std.proofs.Common.{◌≡◌, ℕ, ◌+◌, ◌<◌, ◌≤◌, Bool, true, false, cond, ◌||◌, ◌&&◌, T, List, [], ◌∷◌, Option, Some, None, ◌↔◌, map, length, take, refl, sym, ap, ◌∙◌, IsTrue, is_some, arith}
+use Rattle.std.proofs.Common.{◌≡◌, ℕ, ◌+◌, ◌<◌, ◌≤◌, Bool, true, false, cond, ◌||◌, ◌&&◌, T, List, [], ◌∷◌, Option, Some, None, map, length, take, refl, sym, ap, ◌∙◌, IsTrue, is_some, arith}
 use Rattle.std.specs.Prelude.{Result, Ok, Err, OnOk, OnErr, option_map, unwrap_or}
 use Rattle.std.proofs.Math.ListN.{get_or}
 use Rattle.std.specs.List.{cons_option, filter_map}
 use Rattle.std.specs.declared.cmp.Ordering.{Ordering}
 use Rattle.std.specs.declared.cmp.Ordering.TheVariants.{Less, Equal, Greater}
 use Rattle.std.specs.Ordering.{eq_by_cmp, is_eq, is_lt, ordering_then}
-use Rattle.std.specs.Cmp.{eq_by_cmp_equiv, tied_itself}
-use Rattle.std.specs.Cmp.Lexicographic.{slice_cmp, lists_total}
-use Rattle.std.specs.FinMap.{find, is_sorted, slice_cmp-IsAntisymmetric}
+use Rattle.std.specs.Cmp.{eq_by_cmp_equiv}
+use Rattle.std.specs.FinMap.{find, is_sorted}
 use Rattle.std.specs.FinMap.Entries.{below_all, find-where_key, is_sorted-where_key, same_entries}
 use Rattle.std.proofs.lemmas.Bool.{true≢false}
 use Rattle.std.proofs.lemmas.List.{take_all, nil_from_length}
@@ -16,8 +15,8 @@ use Rattle.std.proofs.lemmas.List.Folds.{list_any_more}
 use Rattle.std.proofs.lemmas.Map.Views.{tells_apart}
 use Rattle.amr_labels.specs.Map.{get, set, insert, empty, entries, from_sorted, if_sorted, get-empty, get-insert, get-set, get-entries, entries-sorted}
 use Rattle.amr_labels.specs.Set.{Set, contains, items}
-use Rattle.amr_labels.specs.Labels.{Text, text_cmp, text_cmp-IsAntisymmetric, LabelSet, label_set_cmp, label_set_cmp_total, label_set_cmp-IsAntisymmetric, value_of}
-use Rattle.amr_labels.specs.Matcher.Matchers.{Matcher, all_hold, matcher_cmp, matcher_cmp_total, matcher_cmp-IsAntisymmetric}
+use Rattle.amr_labels.specs.Labels.{Text, text_cmp, LabelSet, label_set_cmp, label_set_cmp_total, label_set_cmp-IsAntisymmetric, value_of}
+use Rattle.amr_labels.specs.Matcher.Matchers.{all_hold}
 use Rattle.amr_config.specs.declared.stated.rule.InhibitRule.{InhibitRule}
 use Rattle.amr_rules.specs.declared.alert.Alert.{Alert}
 use Rattle.amr_rules.specs.Muting.{Alerts, agree_on, sources_of}
@@ -263,27 +262,3 @@ module _ (m : Alerts) where
       find_member q found ∙ ap (λ b. cond b (get m q) None) (is q) ∙ kept_alike (has label_set_cmp arrived q) (test q) (get m q) (stored q)
       ∙ ap (λ x. cond (test q) x None) (get-entries m q)
       ∙ sym (find-where_key label_set_cmp test q (λ x e. ap test (sym (label_set_cmp-IsAntisymmetric q x e))) (entries m)))
-
--- ---- sides that compare as equal
-
-same_sources : (a b : List Matcher) → eq_by_cmp (slice_cmp matcher_cmp) a b ≡ true → a ≡ b
-same_sources a b e = slice_cmp-IsAntisymmetric matcher_cmp-IsAntisymmetric a b (equal_of _ e)
-
-same_names : (a b : List Text) → eq_by_cmp (slice_cmp text_cmp) a b ≡ true → a ≡ b
-same_names a b e = slice_cmp-IsAntisymmetric text_cmp-IsAntisymmetric a b (equal_of _ e)
-
-source_equal : (side : SourceSide) (rule : InhibitRule) → IsSideOf side rule → eq_by_cmp (slice_cmp matcher_cmp) side.source rule.source ≡ true
-source_equal side rule of = ap (λ l. eq_by_cmp (slice_cmp matcher_cmp) l rule.source) of.source ∙ ap is_eq (tied_itself (lists_total matcher_cmp_total) rule.source)
-
-names_equal : (side : SourceSide) (rule : InhibitRule) → IsSideOf side rule → eq_by_cmp (slice_cmp text_cmp) side.equal.items rule.equal ≡ true
-names_equal side rule of = ap (λ l. eq_by_cmp (slice_cmp text_cmp) l rule.equal) of.equal ∙ ap is_eq (tied_itself values_cmp_total rule.equal)
-
-module _ (side : SourceSide) (rule : InhibitRule) (source : Bool) (asked : source ≡ eq_by_cmp (slice_cmp matcher_cmp) side.source rule.source) where
-  -- a side with other source matchers isn't the rule's
-  pub other_source : source ≡ false → IsTrue source ↔ IsSideOf side rule
-  other_source other = (λ h. absurd (true≢false (sym h ∙ other)), λ of. absurd (true≢false (sym (source_equal side rule of) ∙ sym asked ∙ other)))
-
-  -- and one with the rule's is so if its names in `equal` are the rule's
-  pub by_names : (names : Bool) → names ≡ eq_by_cmp (slice_cmp text_cmp) side.equal.items rule.equal → source ≡ true → IsTrue names ↔ IsSideOf side rule
-  by_names names compared same =
-      (λ h. record { source = same_sources side.source rule.source (sym asked ∙ same); equal = same_names side.equal.items rule.equal (sym compared ∙ h) }, λ of. compared ∙ names_equal side rule of)

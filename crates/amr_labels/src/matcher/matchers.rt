@@ -1,27 +1,20 @@
 //! Lists of matchers, shared by their clones, since routes and silences are cloned often.
 ghost use Rattle.std.specs.Prelude.{◌≡◌, ◌==◌, [], length, map, IfOk};
-ghost use Rattle.std.proofs.Common.{rules};
-ghost use Rattle.std.specs.Cmp.{partial_order_from_own_ties};
-ghost use Rattle.std.specs.Cmp.Rules.{comparing};
-ghost use Rattle.std.specs.Cmp.Lexicographic.{slice_cmp, lists_total};
-ghost use Rattle.std.specs.Ordering.{as_partial_cmp, eq_by_cmp};
 ghost use Rattle.amr_labels.specs.Matcher.Candidates.{matches_each};
-ghost use Rattle.amr_labels.specs.Matcher.Matchers.{all_hold, matcher_cmp, matcher_cmp_total};
+ghost use Rattle.amr_labels.specs.Matcher.Matchers.{all_hold};
 ghost use Rattle.amr_labels.specs.Matcher.ValueBits.{value_bits};
 
 use crate::matcher::candidates::match_each;
 use crate::matcher::match_cache::MatchCache;
 use crate::matcher::matcher::Matcher;
-use crate::{Exact, Labels};
+use crate::{Exact, Labels, Listing, Shared};
 use std::alloc::{AllocError, Global};
-use std::cmp::Ordering;
 use std::marker::Model;
-use std::rc::Rc;
 
 /// A list of matchers. Contracts see the list. Clones share it.
-#[derive(Drop)]
+#[derive(PartialEq, Eq, PartialOrd, Ord, Drop)]
 pub struct Matchers {
-    shared: Rc<Vec<Matcher>>,
+    shared: Shared<Listing<Matcher>>,
 }
 
 impl Model for Matchers {
@@ -30,7 +23,9 @@ impl Model for Matchers {
 
     ghost Value = { List matchers.Matcher };
 
-    ghost view = { λ a. a.shared.value.items };
+    ghost view = { λ a. a.shared };
+
+    ghost inverse = { λ list. record { shared = list } };
 }
 
 impl Matchers {
@@ -46,7 +41,7 @@ impl Matchers {
         ensures { IfOk result (λ made. made ≡ matchers.items) }
     {
         Ok(Matchers {
-            shared: Rc::new(alloc, matchers)?,
+            shared: Shared::new(alloc, Listing::from_vec(matchers))?,
         })
     }
 
@@ -54,21 +49,21 @@ impl Matchers {
     pub fn as_slice(&self) -> &[Matcher]
         ensures { result.now ≡ self.now }
     {
-        self.shared.as_slice()
+        self.shared.get().as_slice()
     }
 
     /// Returns the number of matchers.
     pub fn len(&self) -> usize
         ensures { result ≡ length self.now }
     {
-        self.shared.len()
+        self.shared.get().len()
     }
 
     /// Returns whether there is no matcher.
     pub fn is_empty(&self) -> bool
         ensures { result ≡ (length self.now == 0) }
     {
-        self.shared.is_empty()
+        self.shared.get().is_empty()
     }
 
     /// Returns whether all matchers match the labels. An empty list always does. It asks their
@@ -111,43 +106,4 @@ impl Clone for Matchers {
 
 impl Exact for Matchers {
     ghost exact = { λ x y same. same };
-}
-
-impl PartialEq for Matchers {
-    ghost eq = { eq_by_cmp (slice_cmp matcher_cmp) };
-
-    ghost laws = { Prim.search (comparing, rules, lists_total matcher_cmp_total) };
-
-    #[tactic(auto, using(crate::proofs::EqualLists::pointwise_by_cmp))]
-    fn eq(&self, other: &Matchers) -> bool {
-        self.as_slice() == other.as_slice()
-    }
-}
-
-impl Eq for Matchers {
-    ghost laws = { Prim.search (comparing, rules, lists_total matcher_cmp_total) };
-}
-
-impl Ord for Matchers {
-    ghost cmp = { slice_cmp matcher_cmp };
-
-    ghost total = { lists_total matcher_cmp_total };
-
-    ghost matches_partial_cmp = { Prim.search (comparing, rules) };
-
-    ghost matches_eq = { Prim.search (comparing, rules) };
-
-    fn cmp(&self, other: &Matchers) -> Ordering {
-        self.as_slice().cmp(other.as_slice())
-    }
-}
-
-impl PartialOrd for Matchers {
-    ghost partial_cmp = { as_partial_cmp (slice_cmp matcher_cmp) };
-
-    ghost laws = { partial_order_from_own_ties (Prim.search (comparing, rules, lists_total matcher_cmp_total)) (Prim.search (comparing, rules)) };
-
-    fn partial_cmp(&self, other: &Matchers) -> Option<Ordering> {
-        Some(self.cmp(other))
-    }
 }
