@@ -3,12 +3,15 @@
 ghost use Rattle.std.specs.Prelude.{◌≡◌, ◌==◌, ◌&&◌, ◌||◌, IfOk, ok_or, option_map, nat_lt, nat_le};
 ghost use Rattle.std.specs.List.{list_any};
 ghost use Rattle.std.specs.Option.{option_copied, option_map_or};
+ghost use Rattle.std.specs.Ordering.{eq_by_cmp};
+ghost use Rattle.std.specs.Cmp.Lexicographic.{slice_cmp};
 ghost use Rattle.amr_labels.specs.Map as map;
+ghost use Rattle.amr_labels.specs.Matcher.Matchers.{matcher_cmp};
 
 use crate::silence::{Silence, silence_expire};
 use amr_events::posts::PostedSilence;
 use amr_labels::Labels;
-use amr_labels::matcher::{Matcher, Operator};
+use amr_labels::matcher::{Matcher, Matchers, Operator};
 use amr_time::Moment;
 use std::alloc::{AllocError, Global};
 
@@ -93,15 +96,22 @@ fn from_now(now: Moment, silence: Silence) -> Silence
 /// Returns whether a stored silence may be updated in place: its matchers don't change, and, if it
 /// is active, the second of its start doesn't either; a pending one may start at any moment from
 /// now on.
-#[tactic(auto, using(amr_labels::proofs::EqualLists::pointwise_by_cmp))]
 fn changes_in_place(now: Moment, old: &Silence, new: &Silence) -> bool
     ensures { result ≡ changes_in_place now old.now new.now }
 {
-    old.matchers == new.matchers
+    are_same(&old.matchers, &new.matchers)
         && (old.is_active_at(now)
             && old.starts_at.in_same_second(new.starts_at)
             && now <= new.ends_at
             || old.is_pending_at(now) && now <= new.starts_at)
+}
+
+/// Returns whether two silences have the same matchers, in the same order.
+#[tactic(auto, using(amr_labels::proofs::EqualLists::pointwise_by_cmp))]
+fn are_same(matchers: &Matchers, others: &Matchers) -> bool
+    ensures { result ≡ eq_by_cmp (slice_cmp matcher_cmp) matchers.now others.now }
+{
+    matchers == others
 }
 
 /// Returns whether a silence may be posted now: some matcher narrows it, it starts before it ends,

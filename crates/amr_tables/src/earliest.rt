@@ -104,7 +104,7 @@ impl Earliest {
 
     /// Sets or removes the moment of a number. It takes no memory, and next to no time if the
     /// moment is the last or the first of the queue.
-    #[inline(never)]
+    #[inline(always)]
     pub fn set<O: Ranking>(&mut self, order: &O, number: usize, moment: Option<u128>)
         requires room { number < length self.old.moments }
         requires kept { IsOrdered (O.rank order.now) self.old }
@@ -173,6 +173,7 @@ impl Earliest {
 
     /// Sets the moment of a number: at an end of the queue if it is in order there, else among the
     /// rest.
+    #[inline(never)]
     fn insert<O: Ranking>(&mut self, order: &O, standing: NumberedMoment)
         requires room { standing.number < length self.old.moments }
         requires kept { AreKept (O.rank order.now) self.old }
@@ -194,6 +195,7 @@ impl Earliest {
 
     /// Sets the moment of a number that has none: at the front of the queue if it is in order
     /// there, else among the rest.
+    #[inline(never)]
     fn insert_before<O: Ranking>(&mut self, order: &O, standing: NumberedMoment)
         requires room { standing.number < length self.old.moments }
         requires kept { AreKept (O.rank order.now) self.old }

@@ -537,6 +537,7 @@ fn make_room(
 
 /// Makes a change, given the number of its place, and enters the one that leads back into the open
 /// record, unless the place is marked. It takes no memory.
+#[inline(always)]
 fn enter(tables: &mut Tables, journal: &mut Journal<Change>, number: usize, mut change: Change)
     requires room { 0 < journal.old.entry_room }
     requires number { IsPlaceOf tables.old change number }

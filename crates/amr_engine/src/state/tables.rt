@@ -72,6 +72,7 @@ impl Tables {
     /// Makes a change, given the number of its place, and marks the place. `change` becomes the one
     /// that leads back. Returns whether the place was marked before. The configuration has no mark.
     /// It takes no memory.
+    #[inline(always)]
     pub(crate) fn displace(&mut self, number: usize, change: &mut Change) -> bool
         requires number { IsPlaceOf self.old change.old number }
         requires fits { FitsOne (shown_by self.old) change.old }

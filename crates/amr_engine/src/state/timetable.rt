@@ -143,6 +143,7 @@ impl Timetable {
 
     /// Swaps the timer of the group with a number, or `None` if it has none, with another, and marks
     /// its place as entered. Returns whether the place was marked before. It takes no memory.
+    #[inline(always)]
     pub(crate) fn swap_timer(&mut self, number: usize, timer: &mut Option<GroupTimer>) -> bool
         requires { IsNumber route_labels_cmp self.old.timers number }
         ensures former { IsValueOf route_labels_cmp self.old.timers number timer.new }
