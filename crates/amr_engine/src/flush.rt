@@ -11,7 +11,7 @@ ghost use Rattle.amr_time.specs.Time.{latest_read};
 ghost use Rattle.amr_rules.specs.Alerts.{is_resolved_at};
 ghost use Rattle.amr_engine.specs.State.State as state;
 ghost use Rattle.amr_engine.specs.State.Kept.{GrownBy, before_open_record};
-ghost use Rattle.amr_engine.specs.Flush.{let_through, firing_of, resolved_of, labels_of, notified_firing, notified_resolved, notifications_of, notify_receiver, set_timer, drop_member, drop_resolved, run_pipeline, flush};
+ghost use Rattle.amr_engine.specs.Flush.{let_through, resolved_of, labels_of, notified_firing, notified_resolved, notifications_of, notify_receiver, set_timer, drop_member, drop_resolved, run_pipeline, flush};
 ghost use Rattle.amr_engine.specs.Quiet.{with_timer_reset, IsStill};
 ghost use Rattle.amr_engine.specs.CachedQuiet.{IsTrueOf};
 ghost use Rattle.amr_engine.specs.Weight.{turns, flush_weight};
@@ -98,7 +98,7 @@ fn flush_unnotified(
         return Ok(true);
     }
     quiet_groups.forget_flushed(store.config(), group);
-    flush_in_full(store, at, group, members, through.as_slice())?;
+    flush_in_full(store, at, group, members, through)?;
     Ok(false)
 }
 
@@ -183,11 +183,11 @@ fn flush_in_full(
     at: Moment,
     group: &RouteLabels,
     members: &[Member],
-    through: &[Member],
+    through: Vec<Member>,
 ) -> Result<(), AllocError>
     requires late { at ≤ latest_read }
     requires members { members.now ≡ state.members store.old.state group.now }
-    requires through { through.now ≡ let_through store.old.state at group.now.route members.now }
+    requires through { through.items ≡ let_through store.old.state at group.now.route members.now }
     ensures ok { OnOk result (store.new.state ≡ flush at group.now store.old.state) }
     ensures kept { before_open_record store.new ≡ before_open_record store.old }
     ensures grown { GrownBy (2 * flush_weight store.old.state group.now) store.old store.new }
@@ -224,9 +224,9 @@ fn run_pipeline(
     at: Moment,
     group: &RouteLabels,
     members: &[Member],
-    through: &[Member],
+    through: Vec<Member>,
 ) -> Result<(), AllocError>
-    requires through { through.now ≡ let_through store.old.state at group.now.route members.now }
+    requires through { through.items ≡ let_through store.old.state at group.now.route members.now }
     requires group { IsGroupOf store.old.state.config group.now members.now }
     ensures ok { OnOk result (store.new.state
         ≡ run_pipeline at group.now members.now store.old.state) }
@@ -247,10 +247,10 @@ fn notify_receiver(
     store: &mut Store,
     at: Moment,
     group: &RouteLabels,
-    through: &[Member],
+    through: Vec<Member>,
 ) -> Result<(), AllocError>
     ensures ok { OnOk result (store.new.state
-        ≡ notify_receiver at group.now through.now store.old.state) }
+        ≡ notify_receiver at group.now through.items store.old.state) }
     ensures kept { before_open_record store.new ≡ before_open_record store.old }
     ensures grown { GrownBy (2 * turns store.old.state group.now) store.old store.new }
 {
@@ -262,11 +262,18 @@ fn notify_receiver(
 }
 
 /// Splits members into firing and resolved ones.
-fn partition_of(alloc: Global, at: Moment, members: &[Member]) -> Result<Partition, AllocError>
-    ensures { IfOk result (λ partition. IsPartition at members.now partition) }
+fn partition_of(alloc: Global, at: Moment, members: Vec<Member>) -> Result<Partition, AllocError>
+    ensures { IfOk result (λ partition. IsPartition at members.items partition) }
 {
-    let firing = firing_of(alloc, at, members)?;
-    let resolved = resolved_of(alloc, at, members)?;
+    let mut firing = Vec::new(alloc);
+    let mut resolved = Vec::new(alloc);
+    for (labels, alert) in members {
+        if alert.is_resolved_at(at) {
+            resolved.push((labels, alert))?;
+        } else {
+            firing.push((labels, alert))?;
+        }
+    }
     let firing_labels = labels_of(alloc, firing.as_slice())?;
     let resolved_labels = labels_of(alloc, resolved.as_slice())?;
     Ok(Partition {
@@ -275,32 +282,6 @@ fn partition_of(alloc: Global, at: Moment, members: &[Member]) -> Result<Partiti
         firing_labels,
         resolved_labels,
     })
-}
-
-/// Returns the members that fire.
-fn firing_of(alloc: Global, at: Moment, members: &[Member]) -> Result<Vec<Member>, AllocError>
-    ensures { IfOk result (λ firing. firing.items ≡ firing_of at members.now) }
-{
-    let mut firing = Vec::new(alloc);
-    for (labels, alert) in members {
-        if !alert.is_resolved_at(at) {
-            firing.push((labels.clone()?, alert.clone()?))?;
-        }
-    }
-    Ok(firing)
-}
-
-/// Returns the members that are resolved.
-fn resolved_of(alloc: Global, at: Moment, members: &[Member]) -> Result<Vec<Member>, AllocError>
-    ensures { IfOk result (λ resolved. resolved.items ≡ resolved_of at members.now) }
-{
-    let mut resolved = Vec::new(alloc);
-    for (labels, alert) in members {
-        if alert.is_resolved_at(at) {
-            resolved.push((labels.clone()?, alert.clone()?))?;
-        }
-    }
-    Ok(resolved)
 }
 
 /// Runs the dedup check for each integration of the group's receiver, in order, and notifies those
