@@ -334,6 +334,7 @@ impl Store {
 
     /// Makes a change, and enters the one that leads back into the open record, unless the record
     /// has one of its place.
+    #[inline(always)]
     pub fn change(&mut self, change: Change) -> Result<(), AllocError>
         requires { IsAllowed self.old.state change }
         ensures ok { OnOk result (self.new.state ≡ after_change self.old.state change) }
@@ -515,6 +516,7 @@ impl Store {
 
 /// Returns the number of a change's place. Makes the place if there is none, and room for an entry
 /// in the open record.
+#[inline(always)]
 fn make_room(
     tables: &mut Tables,
     journal: &mut Journal<Change>,

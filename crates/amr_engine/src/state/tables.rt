@@ -37,6 +37,7 @@ pub(crate) struct Tables {
 
 impl Tables {
     /// Returns the number of a change's place. Makes the place if there is none.
+    #[inline(always)]
     pub(crate) fn place(&mut self, change: &Change) -> Result<usize, AllocError>
         requires { FitsOne (shown_by self.old) change.now }
         ensures number { IfOk result (λ number. IsPlaceOf self.new change.now number) }
