@@ -1,9 +1,10 @@
 -- Paths of routes: their order, their numbers, and which of them are paths of one route alone.
-use Rattle.std.specs.Prelude.{◌≡◌, ℕ, ◌<◌, ◌≤◌, ◌+◌, ◌*◌, ◌%◌, ◌^◌, Bool, false, List, fold, length, get_or}
+use Rattle.std.specs.Prelude.{◌≡◌, refl, ℕ, ◌<◌, ◌≤◌, ◌+◌, ◌*◌, ◌%◌, ◌^◌, Bool, false, List, fold, length, get_or}
 use Rattle.std.specs.Bool.{Decides}
 use Rattle.std.specs.declared.cmp.Ordering.{Ordering}
 use Rattle.std.specs.Cmp.{IsTotalOrder}
-use Rattle.std.specs.Cmp.Lexicographic.{slice_cmp, lists_total}
+use Rattle.std.specs.Ordering.{eq_by_cmp}
+use Rattle.std.specs.Cmp.Lexicographic.{pointwise, slice_cmp, lists_ties, lists_total}
 use Rattle.std.specs.FinMap.{IsAntisymmetric, slice_cmp-IsAntisymmetric}
 use Rattle.amr_labels.specs.Hashes.{text_fnv_hash}
 use Rattle.amr_labels.specs.Matcher.Matchers.{Matcher, matcher_cmp, matcher_cmp_total, matcher_cmp-IsAntisymmetric}
@@ -23,6 +24,10 @@ path_cmp_total = lists_total (lists_total matcher_cmp_total)
 
 pub path_cmp-IsAntisymmetric : IsAntisymmetric path_cmp
 path_cmp-IsAntisymmetric = slice_cmp-IsAntisymmetric (slice_cmp-IsAntisymmetric matcher_cmp-IsAntisymmetric)
+
+-- paths are equal, item by item, exactly if they compare as equal
+pub path_ties : (a b : Path) → pointwise (pointwise (eq_by_cmp matcher_cmp)) a b ≡ eq_by_cmp path_cmp a b
+path_ties = lists_ties (slice_cmp matcher_cmp) (lists_ties matcher_cmp (λ a b. refl))
 
 -- ---- hashes of paths: only the speed of look-ups depends on them
 

@@ -100,11 +100,11 @@ impl Hash for RoutePath {
     ghost use Rattle.std.specs.Hash as fed;
     ghost use Rattle.std.proofs.Common.{ap, sym, ◌∙◌};
     ghost use Rattle.std.proofs.lemmas.Map.Views.{tells_apart};
-    ghost use Rattle.amr_config.specs.Paths.{path_hash, path_cmp-IsAntisymmetric};
+    ghost use Rattle.amr_config.specs.Paths.{path_hash, path_cmp-IsAntisymmetric, path_ties};
 
     ghost hash_input = { λ path. fed.usize (path_hash path) };
 
-    ghost respects_eq = { λ x y h. ap (λ path. fed.usize (path_hash path)) (tells_apart path_cmp-IsAntisymmetric x y (sym (⟦<RoutePath as Ord>⟧.matches_eq x y) ∙ h)) };
+    ghost respects_eq = { λ x y h. ap (λ path. fed.usize (path_hash path)) (tells_apart path_cmp-IsAntisymmetric x y (sym (path_ties x y) ∙ h)) };
 
     fn hash<H: Hasher>(&self, state: &mut H) {
         state.write_usize(self.hash_value());
