@@ -3,16 +3,18 @@
 //! notified of: then it doesn't matter what mutes them, and nobody is asked.
 ghost use Rattle.std.specs.Prelude.{◌≡◌, ◌≤◌, ◌<◌, true, IfOk, IfSome};
 ghost use Rattle.std.specs.List.{list_all};
+ghost use Rattle.std.specs.Option.{option_copied};
+ghost use Rattle.amr_labels.specs.Map.{get};
 ghost use Rattle.amr_config.specs.Routing.{integrations_of};
 ghost use Rattle.amr_engine.specs.State.State as state;
-ghost use Rattle.amr_engine.specs.Flush.{let_through, labels_of};
+ghost use Rattle.amr_engine.specs.Flush.{let_through, labels_of, log_key_of};
 ghost use Rattle.amr_engine.specs.Quiet.{is_outside, no_alert_ends, no_silence_turns, all_fire_until, is_untimed, is_notified, are_notified, IsStill, IsQuiet, IsAllNotified};
 
 use crate::log_key::log_key;
 use crate::state::{Member, RouteLabels, Store};
 use amr_config::Config;
 use amr_config::stated::Integration;
-use amr_rules::is_due_while_firing;
+use amr_rules::{LogEntry, is_due_while_firing};
 use amr_time::Moment;
 use std::alloc::AllocError;
 
@@ -148,8 +150,7 @@ fn repeat_of(
         is_notified store.now.state group.now at end (labels_of through.now) integration.now
         ≡ true)) }
 {
-    let key = log_key(store.alloc(), store.config(), group, integration)?;
-    let Some(entry) = store.log().get(&key) else {
+    let Some(entry) = logged_entry(store, group, integration)? else {
         return Ok(None);
     };
     if entry.firing.len() < through.len() {
@@ -160,6 +161,19 @@ fn repeat_of(
         return Ok(None);
     }
     Ok(Some(entry.time.nanoseconds() + u128::from(interval.nanoseconds()) + 1))
+}
+
+/// Returns the entry of the notification log for a group and an integration of its receiver.
+fn logged_entry<'s>(
+    store: &'s Store,
+    group: &RouteLabels,
+    integration: &Integration,
+) -> Result<Option<&'s LogEntry>, AllocError>
+    ensures { IfOk result (λ entry. option_copied entry ≡ get store.now.state.log
+        (log_key_of store.now.state.config group.now integration.now)) }
+{
+    let key = log_key(store.alloc(), store.config(), group, integration)?;
+    Ok(store.log().get(&key))
 }
 
 /// Returns a moment until which nothing that may mute an alert changes.
