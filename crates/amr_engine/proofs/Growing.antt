@@ -1,10 +1,10 @@
 -- How many entries an event adds to the open record.
-use Rattle.std.specs.Prelude.{◌≡◌, ℕ, zero, suc, false, if◌then◌else◌, List, [], Option, None, Some, length, drop, ◌+◌, ◌-◌, ◌*◌, ◌≤◌, ◌<◌}
+use Rattle.std.specs.Prelude.{◌≡◌, ℕ, zero, suc, false, if◌then◌else◌, List, [], ◌∷◌, Option, None, Some, length, drop, ◌+◌, ◌-◌, ◌*◌, ◌≤◌, ◌<◌}
 use Rattle.std.specs.Option.{option_map, option_map_or}
 use Rattle.std.specs.List.{fold, sum_by}
 use Rattle.std.proofs.Common.{get_or, refl, sym, ap, subst, ◌∙◌, arith}
 use Rattle.std.proofs.lemmas.List.{at_drop_more}
-use Rattle.std.proofs.lemmas.List.Sums.{sum_by-drop_more}
+use Rattle.std.proofs.lemmas.List.Sums.{sum_by-cons, sum_by-drop_more}
 use Rattle.amr_labels.specs.Map.{entries, len}
 use Rattle.amr_labels.specs.Labels.{LabelSet}
 use Rattle.amr_time.specs.Time.{Moment}
@@ -88,10 +88,10 @@ placed_more config was alerts i alert now later bound so_far less is same grown 
     omega (arith, left, here, so_far, grown)
 
 -- one more alert is stored
-pub put_more : (config was : Config) (alerts : List (LabelSet × Alert)) (i : ℕ) (alert : LabelSet × Alert) (now later bound : ℕ) → now + alerts_weight config (drop i alerts) ≤ bound
-    → i < length alerts → alert ≡ get_or alerts i alert → was ≡ config → later ≤ now + alert_weight was alert.0 → later + alerts_weight config (drop (i + 1) alerts) ≤ bound
-put_more config was alerts i alert now later bound so_far less is same grown =
-    let left : alerts_weight config (drop i alerts) ≡ alert_weight config alert.0 + alerts_weight config (drop (i + 1) alerts) = one_more (λ a. alert_weight config a.0) alerts i alert less is in
+pub put_more : (config was : Config) (alerts : List (LabelSet × Alert)) (alert : LabelSet × Alert) (rest : List (LabelSet × Alert)) (now later bound : ℕ) → now + alerts_weight config alerts ≤ bound
+    → alerts ≡ alert ∷ rest → was ≡ config → later ≤ now + alert_weight was alert.0 → later + alerts_weight config rest ≤ bound
+put_more config was alerts alert rest now later bound so_far is same grown =
+    let left : alerts_weight config alerts ≡ alert_weight config alert.0 + alerts_weight config rest = ap (alerts_weight config) is ∙ sum_by-cons (λ (a : LabelSet × Alert). alert_weight config a.0) alert rest in
     let here : alert_weight was alert.0 ≡ alert_weight config alert.0 = ap (λ c. alert_weight c alert.0) same in
     omega (arith, left, here, so_far, grown)
 

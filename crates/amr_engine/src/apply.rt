@@ -144,7 +144,7 @@ fn perform(
 {
     match prepared {
         Prepared::Put(validated) => {
-            put_all(store, quiet_groups, validated.valid.as_slice())?;
+            put_all(store, quiet_groups, validated.valid)?;
             return Ok(validated.skipped);
         }
         Prepared::Silence {

@@ -1,20 +1,19 @@
 //! A post of alerts: sorting out the valid ones before the moves of the event, and storing them
-//! after. Merging is decided by `amr_rules`, grouping by `state`.
+//! after. `state` merges them as `amr_rules` decides, and inserts them into their groups.
 ghost use Rattle.std.specs.Prelude.{◌≡◌, ◌+◌, ◌<◌, OnOk, IfOk};
 ghost use Rattle.std.specs.List.{fold, filter_map};
-ghost use Rattle.amr_labels.specs.Map as map;
 ghost use Rattle.amr_time.specs.Time.{before_year_10000};
-ghost use Rattle.amr_rules.specs.Alerts.{completed_alert, alert_to_store};
+ghost use Rattle.amr_rules.specs.Alerts.{completed_alert};
 ghost use Rattle.amr_engine.specs.State.Kept.{GrownBy, before_open_record};
 ghost use Rattle.amr_engine.specs.CachedQuiet.{IsTrueOf};
 ghost use Rattle.amr_engine.specs.Events.{put, skipped_from};
 ghost use Rattle.amr_engine.specs.Weight.{alert_weight, alerts_weight};
 
 use crate::quiet::QuietGroups;
-use crate::state::{Change, Store, insert_into_each};
+use crate::state::{Store, insert_into_each};
 use amr_events::posts::PostedAlert;
 use amr_labels::{Labels, Listing};
-use amr_rules::{Alert, complete_alert, merge};
+use amr_rules::{Alert, complete_alert};
 use amr_time::{Moment, Span};
 use std::alloc::{AllocError, Global};
 
@@ -50,19 +49,6 @@ pub(crate) fn validate(
     Ok(Validated { valid, skipped })
 }
 
-/// Returns the alert to store: the new alert, merged with the stored alert of the same labels if
-/// one exists.
-#[tactic(auto, unfolding(amr_rules::specs::Alerts::alert_to_store))]
-fn joined(store: &Store, labels: &Labels, alert: Alert) -> Alert
-    ensures { result
-        ≡ alert_to_store store.now.state.moment (map.get store.now.state.alerts labels.now) alert }
-{
-    match store.alerts().get(labels) {
-        Some(stored) => merge(store.moment(), stored, alert),
-        None => alert,
-    }
-}
-
 /// Stores a valid alert, merged with the stored one of its labels, and inserts it into its groups.
 /// The cache of quiet groups first forgets what that may change.
 #[tactic(auto, unfolding(crate::specs::Events::put))]
@@ -81,9 +67,7 @@ fn put(
     let groups = store.groups_of(labels)?;
     let groups = groups.get().as_slice();
     quiet_groups.forget_joined(groups);
-    let stored = joined(store, labels, alert);
-    let change = Change::OfAlert(labels.clone()?, Some(stored.clone()?));
-    store.change(change)?;
+    let stored = store.put_alert(labels, alert)?;
     insert_into_each(store, groups, labels, &stored)
 }
 
@@ -91,16 +75,16 @@ fn put(
 pub(crate) fn put_all(
     store: &mut Store,
     quiet_groups: &mut QuietGroups,
-    valid: &[(Labels, Alert)],
+    valid: Vec<(Labels, Alert)>,
 ) -> Result<(), AllocError>
     requires { IsTrueOf quiet_groups.old store.old.state }
-    ensures ok { OnOk result (store.new.state ≡ fold put store.old.state valid.now) }
+    ensures ok { OnOk result (store.new.state ≡ fold put store.old.state valid.items) }
     ensures kept { before_open_record store.new ≡ before_open_record store.old }
-    ensures grown { GrownBy (alerts_weight store.old.state.config valid.now) store.old store.new }
+    ensures grown { GrownBy (alerts_weight store.old.state.config valid.items) store.old store.new }
     ensures cache { OnOk result (IsTrueOf quiet_groups.new store.new.state) }
 {
     for (labels, alert) in valid {
-        put(store, quiet_groups, labels, alert.clone()?)?;
+        put(store, quiet_groups, &labels, alert)?;
     }
     Ok(())
 }

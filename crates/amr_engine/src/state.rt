@@ -3,17 +3,19 @@
 //! it through `Store` and lists it through `views`. Of the rules, only when a timer is due (`due.rt`)
 //! and how an alert joins its groups (`inserting.rt`) are here.
 
+mod alert_table;
 mod change;
 mod due;
+mod entering;
 mod inserting;
 mod members;
 mod membership;
 mod notification;
+mod pending;
 mod roster;
 mod route_labels;
 mod store;
 mod tables;
-mod timetable;
 pub mod views;
 
 pub use change::Change;

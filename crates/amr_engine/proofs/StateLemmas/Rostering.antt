@@ -29,6 +29,7 @@ use Rattle.amr_tables.specs.Grouped.{Grouped, group_at, AreNumbersOf}
 use Rattle.amr_tables.proofs.Naming.{key_at_number}
 use Rattle.amr_tables.proofs.Sorting.{same_from_members}
 use Rattle.amr_tables.proofs.Counting.{strictly}
+use Rattle.amr_engine.specs.declared.state.notification.GroupTimer.{GroupTimer}
 use Rattle.amr_engine.specs.declared.state.route_labels.RouteLabels.{RouteLabels}
 use Rattle.amr_engine.specs.State.State.{on_route, route_labels_cmp, route_labels_cmp_total, route_labels_cmp-IsAntisymmetric, group_key, members_among}
 use Rattle.amr_engine.specs.State.Rostered.{labels_of_members, labels_of_numbered, numbered_labels, with_alert, group_number, IsNumbered, IsGrouped}
@@ -123,9 +124,9 @@ set_again (x ∷ xs) (suc n) v h e = ap (λ (ys : List (Option ℕ)). x ∷ ys) 
 
 -- ---- the invariant
 
-module _ (config : Config) (a : Numbered RouteLabels Alert) (gs : Numbered RouteLabels (Unit {0})) (m : Grouped) (is : IsGrouped config a gs m) where
+module _ (config : Config) (a : Numbered RouteLabels Alert) (gs : Numbered RouteLabels GroupTimer) (m : Grouped) (is : IsGrouped config a gs m) where
   -- the same members, with room for more
-  pub grouped_same : (b : Numbered RouteLabels Alert) (hs : Numbered RouteLabels (Unit {0})) (k : Grouped) → b.numbers ≡ a.numbers → map_of route_labels_cmp b ≡ map_of route_labels_cmp a → hs.numbers ≡ gs.numbers → map_of route_labels_cmp hs ≡ map_of route_labels_cmp gs
+  pub grouped_same : (b : Numbered RouteLabels Alert) (hs : Numbered RouteLabels GroupTimer) (k : Grouped) → b.numbers ≡ a.numbers → map_of route_labels_cmp b ≡ map_of route_labels_cmp a → hs.numbers ≡ gs.numbers → map_of route_labels_cmp hs ≡ map_of route_labels_cmp gs
       → ((n : ℕ) → group_at k n ≡ group_at m n) → length m.groups ≤ length k.groups → m.count ≤ k.count → IsGrouped config b hs k
   unfolding has_place
   grouped_same b hs k numbers shows groups same_groups same longer more = record {
@@ -223,7 +224,7 @@ module _ (config : Config) (a : Numbered RouteLabels Alert) (gs : Numbered Route
           omega (arith, less))
 
   -- a group gets a number
-  pub group_placed : (hs : Numbered RouteLabels (Unit {0})) (k : RouteLabels) → IsNumbering route_labels_cmp gs → number_of route_labels_cmp gs k ≡ None → GetsNumber route_labels_cmp gs hs k (next_number gs) → map_of route_labels_cmp hs ≡ map_of route_labels_cmp gs → next_number gs < m.count → IsGrouped config a hs m
+  pub group_placed : (hs : Numbered RouteLabels GroupTimer) (k : RouteLabels) → IsNumbering route_labels_cmp gs → number_of route_labels_cmp gs k ≡ None → GetsNumber route_labels_cmp gs hs k (next_number gs) → map_of route_labels_cmp hs ≡ map_of route_labels_cmp gs → next_number gs < m.count → IsGrouped config a hs m
   group_placed hs k numbering new gets shows room = record {
     numbered = is.numbered;
     groups_numbered = numbered_placed route_labels_cmp_total route_labels_cmp-IsAntisymmetric gs hs k (next_number gs) gets numbering.within shows is.groups_numbered;
@@ -237,6 +238,19 @@ module _ (config : Config) (a : Numbered RouteLabels Alert) (gs : Numbered Route
       same_group : (key : RouteLabels) (o : Option Alert) → (IsTrue (is_some o) → IsTrue (has_place route_labels_cmp gs (group_key config key))) → group_number config gs key o ≡ group_number config hs key o
       same_group key None h = refl
       same_group key (Some x) h = let by = place_number gs (group_key config key) (h refl) in by.1 ∙ sym (kept_number gs hs k (next_number gs) new gets (group_key config key) by.0 by.1)
+
+  -- a group's timer is another
+  pub grouped_timed : (hs : Numbered RouteLabels GroupTimer) (k : RouteLabels) (n : ℕ) (value : Option GroupTimer) → number_of route_labels_cmp gs k ≡ Some n → hs.numbers ≡ gs.numbers → map_of route_labels_cmp hs ≡ set (map_of route_labels_cmp gs) k value → IsGrouped config a hs m
+  unfolding has_place
+  grouped_timed hs k n value at numbers shows = record {
+    numbered = is.numbered;
+    groups_numbered = numbered_set route_labels_cmp_total route_labels_cmp-IsAntisymmetric gs hs k n value at numbers shows is.groups_numbered;
+    grouped = λ key x there. is.grouped key x there ∙ (λ i. option_and_then (λ _. find route_labels_cmp (group_key config key) (sym numbers i)) (get (map_of route_labels_cmp a) key));
+    known = λ key h. subst (λ ns. IsTrue (is_some (find route_labels_cmp (group_key config key) ns))) (sym numbers) (is.known key h);
+    named = is.named;
+    room = is.room;
+    group_room = λ group g there. is.group_room group g (ap (find route_labels_cmp group) (sym numbers) ∙ there);
+  }
 
   -- without members, any configuration may be in force
   pub grouped_again : (after : Config) → map_of route_labels_cmp a ≡ empty → IsGrouped after a gs m
@@ -253,7 +267,7 @@ module _ (config : Config) (a : Numbered RouteLabels Alert) (gs : Numbered Route
       nobody : (key : RouteLabels) → get (map_of route_labels_cmp a) key ≡ None
       nobody key = ap (λ (s : Map route_labels_cmp Alert). get s key) none ∙ get-empty route_labels_cmp key
 
-pub grouped_first : (config : Config) (a : Numbered RouteLabels Alert) (gs : Numbered RouteLabels (Unit {0})) (m : Grouped) → a.numbers ≡ [] → map_of route_labels_cmp a ≡ empty → gs.numbers ≡ [] → map_of route_labels_cmp gs ≡ empty → m.groups ≡ [] → IsGrouped config a gs m
+pub grouped_first : (config : Config) (a : Numbered RouteLabels Alert) (gs : Numbered RouteLabels GroupTimer) (m : Grouped) → a.numbers ≡ [] → map_of route_labels_cmp a ≡ empty → gs.numbers ≡ [] → map_of route_labels_cmp gs ≡ empty → m.groups ≡ [] → IsGrouped config a gs m
 grouped_first config a gs m none no_members no_groups no_values nothing = record {
   numbered = none_numbered route_labels_cmp_total route_labels_cmp-IsAntisymmetric a none no_members;
   groups_numbered = none_numbered route_labels_cmp_total route_labels_cmp-IsAntisymmetric gs no_groups no_values;
@@ -266,7 +280,7 @@ grouped_first config a gs m none no_members no_groups no_values nothing = record
 
 -- ---- the number of a member of the group
 
-module _ (config : Config) (a : Numbered RouteLabels Alert) (gs : Numbered RouteLabels (Unit {0})) (m : Grouped) (is : IsGrouped config a gs m) (group : RouteLabels) (g : ℕ) (at : number_of route_labels_cmp gs group ≡ Some g) where
+module _ (config : Config) (a : Numbered RouteLabels Alert) (gs : Numbered RouteLabels GroupTimer) (m : Grouped) (is : IsGrouped config a gs m) (group : RouteLabels) (g : ℕ) (at : number_of route_labels_cmp gs group ≡ Some g) where
   grouped_at : (key : RouteLabels) (o : Option Alert) → group_number config gs key o ≡ Some g → IsTrue (is_some o) × (group_key config key ≡ group)
   grouped_at key None e = cc
   grouped_at key (Some x) e = (refl, is.groups_numbered.apart (group_key config key) group g e at)
@@ -402,7 +416,7 @@ module _ (config : Config) (group : RouteLabels) where
 abbrev pub numbers_of_listed : List (Bor LabelSet × ℕ) → List ℕ
 numbers_of_listed members = map (λ member. member.1) members
 
-module _ (config : Config) (a : Numbered RouteLabels Alert) (gs : Numbered RouteLabels (Unit {0})) (m : Grouped) (is : IsGrouped config a gs m) (group : RouteLabels) where
+module _ (config : Config) (a : Numbered RouteLabels Alert) (gs : Numbered RouteLabels GroupTimer) (m : Grouped) (is : IsGrouped config a gs m) (group : RouteLabels) where
   -- no member is in a group without a number
   pub none_listed : number_of route_labels_cmp gs group ≡ None → [] ≡ labels_of_members (members_among config (map_of route_labels_cmp a) group)
   unfolding IsStrictlySortedBy

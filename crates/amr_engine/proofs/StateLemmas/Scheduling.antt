@@ -30,7 +30,7 @@ use Rattle.amr_engine.specs.declared.state.due.Kind.{Kind}
 use Rattle.amr_engine.specs.declared.state.due.Kind.TheVariants.{AlertRemoval, GroupRemoval, GroupFlush}
 use Rattle.amr_engine.specs.State.State.{on_route, route_labels_cmp, route_labels_cmp_total, route_labels_cmp-IsAntisymmetric}
 use Rattle.amr_engine.specs.State.Dues.{Due, due_cmp, dues_of}
-use Rattle.amr_engine.specs.State.Timed.{AreNumbered, IsScheduled, IsTimed, alert_moment, flush_moment, removal_moment, group_moment, IsFirstOfKind}
+use Rattle.amr_engine.specs.State.Timed.{AreNumbered, IsScheduled, AreRemoved, AreTimed, alert_moment, flush_moment, removal_moment, group_moment, IsFirstOfKind}
 use Rattle.amr_engine.proofs.StateLemmas.Least.{sooner, alike}
 use Rattle.amr_engine.proofs.StateLemmas.Timing.{is_at, due_moment, alert_pick, members}
 
@@ -256,69 +256,57 @@ module _ {K V : Type 0} (R : K → K → Ordering) (t u : Numbered K V) where
   pub ranked : u.numbers ≡ t.numbers → (e : Earliest) → IsOrdered (rank_of R t) e → IsOrdered (rank_of R u) e
   ranked numbers e ordered = subst (λ ns. IsOrdered (λ a b. option_cmp R (key_with ns a) (key_with ns b)) e) (sym numbers) ordered
 
--- ---- the timetable
+-- ---- the moments of alerts
 
-module _ (a : Numbered LabelSet Alert) (c : Numbered RouteLabels GroupTimer) (removals emptied flushes : Earliest) (is : IsTimed a c removals emptied flushes) where
+module _ (a : Numbered LabelSet Alert) (removals : Earliest) (is : AreRemoved a removals) where
   pub alerts_same : (b : Numbered LabelSet Alert) → b.numbers ≡ a.numbers → map_of label_set_cmp b ≡ map_of label_set_cmp a → (r : Earliest) → ((n : ℕ) → moment_at r n ≡ moment_at removals n) → length removals.moments ≤ length r.moments
-      → ((n : ℕ) → IsHeld r n → IsHeld removals n) → IsOrdered (rank_of label_set_cmp a) r → IsTimed b c r emptied flushes
+      → ((n : ℕ) → IsHeld r n → IsHeld removals n) → IsOrdered (rank_of label_set_cmp a) r → AreRemoved b r
   alerts_same b numbers shows r same longer held ordered = record {
-    alerts_numbered = numbered_same label_set_cmp_total label_set_cmp-IsAntisymmetric a b numbers shows is.alerts_numbered;
-    timers_numbered = is.timers_numbered;
-    alerts_removed = scheduled_same label_set_cmp_total label_set_cmp-IsAntisymmetric alert_moment a b removals r numbers shows same longer held ordered is.alerts_removed;
-    groups_removed = is.groups_removed;
-    groups_flushed = is.groups_flushed;
-  }
-
-  pub timers_same : (d : Numbered RouteLabels GroupTimer) → d.numbers ≡ c.numbers → map_of route_labels_cmp d ≡ map_of route_labels_cmp c
-      → (e : Earliest) → ((n : ℕ) → moment_at e n ≡ moment_at emptied n) → length emptied.moments ≤ length e.moments → ((n : ℕ) → IsHeld e n → IsHeld emptied n) → IsOrdered (rank_of route_labels_cmp c) e
-      → (f : Earliest) → ((n : ℕ) → moment_at f n ≡ moment_at flushes n) → length flushes.moments ≤ length f.moments → ((n : ℕ) → IsHeld f n → IsHeld flushes n) → IsOrdered (rank_of route_labels_cmp c) f → IsTimed a d removals e f
-  timers_same d numbers shows e same_e longer_e held_e ordered_e f same_f longer_f held_f ordered_f = record {
-    alerts_numbered = is.alerts_numbered;
-    timers_numbered = numbered_same route_labels_cmp_total route_labels_cmp-IsAntisymmetric c d numbers shows is.timers_numbered;
-    alerts_removed = is.alerts_removed;
-    groups_removed = scheduled_same route_labels_cmp_total route_labels_cmp-IsAntisymmetric removal_moment c d emptied e numbers shows same_e longer_e held_e ordered_e is.groups_removed;
-    groups_flushed = scheduled_same route_labels_cmp_total route_labels_cmp-IsAntisymmetric flush_moment c d flushes f numbers shows same_f longer_f held_f ordered_f is.groups_flushed;
+    numbered = numbered_same label_set_cmp_total label_set_cmp-IsAntisymmetric a b numbers shows is.numbered;
+    removed = scheduled_same label_set_cmp_total label_set_cmp-IsAntisymmetric alert_moment a b removals r numbers shows same longer held ordered is.removed;
   }
 
   pub alert_set : (b : Numbered LabelSet Alert) (r : Earliest) (k : LabelSet) (n : ℕ) (value : Option Alert) → number_of label_set_cmp a k ≡ Some n → b.numbers ≡ a.numbers → map_of label_set_cmp b ≡ set (map_of label_set_cmp a) k value
-      → r.moments ≡ slice_set removals.moments n (alert_moment value) → ((m : ℕ) → IsHeld r m → IsHeld removals m ⊎ (m ≡ n)) → IsOrdered (rank_of label_set_cmp b) r → IsTimed b c r emptied flushes
+      → r.moments ≡ slice_set removals.moments n (alert_moment value) → ((m : ℕ) → IsHeld r m → IsHeld removals m ⊎ (m ≡ n)) → IsOrdered (rank_of label_set_cmp b) r → AreRemoved b r
   alert_set b r k n value at numbers shows moments held ordered = record {
-    alerts_numbered = numbered_set label_set_cmp_total label_set_cmp-IsAntisymmetric a b k n value at numbers shows is.alerts_numbered;
-    timers_numbered = is.timers_numbered;
-    alerts_removed = scheduled_set label_set_cmp_total label_set_cmp-IsAntisymmetric alert_moment a b removals r k n value at numbers shows moments held ordered is.alerts_numbered is.alerts_removed;
-    groups_removed = is.groups_removed;
-    groups_flushed = is.groups_flushed;
-  }
-
-  pub timer_set : (d : Numbered RouteLabels GroupTimer) (e f : Earliest) (k : RouteLabels) (n : ℕ) (value : Option GroupTimer) → number_of route_labels_cmp c k ≡ Some n → d.numbers ≡ c.numbers → map_of route_labels_cmp d ≡ set (map_of route_labels_cmp c) k value
-      → e.moments ≡ slice_set emptied.moments n (removal_moment value) → ((m : ℕ) → IsHeld e m → IsHeld emptied m ⊎ (m ≡ n)) → IsOrdered (rank_of route_labels_cmp d) e
-      → f.moments ≡ slice_set flushes.moments n (flush_moment value) → ((m : ℕ) → IsHeld f m → IsHeld flushes m ⊎ (m ≡ n)) → IsOrdered (rank_of route_labels_cmp d) f → IsTimed a d removals e f
-  timer_set d e f k n value at numbers shows moments_e held_e ordered_e moments_f held_f ordered_f = record {
-    alerts_numbered = is.alerts_numbered;
-    timers_numbered = numbered_set route_labels_cmp_total route_labels_cmp-IsAntisymmetric c d k n value at numbers shows is.timers_numbered;
-    alerts_removed = is.alerts_removed;
-    groups_removed = scheduled_set route_labels_cmp_total route_labels_cmp-IsAntisymmetric removal_moment c d emptied e k n value at numbers shows moments_e held_e ordered_e is.timers_numbered is.groups_removed;
-    groups_flushed = scheduled_set route_labels_cmp_total route_labels_cmp-IsAntisymmetric flush_moment c d flushes f k n value at numbers shows moments_f held_f ordered_f is.timers_numbered is.groups_flushed;
+    numbered = numbered_set label_set_cmp_total label_set_cmp-IsAntisymmetric a b k n value at numbers shows is.numbered;
+    removed = scheduled_set label_set_cmp_total label_set_cmp-IsAntisymmetric alert_moment a b removals r k n value at numbers shows moments held ordered is.numbered is.removed;
   }
 
   pub alert_placed : (b : Numbered LabelSet Alert) (k : LabelSet) → IsNumbering label_set_cmp a → IsNumbering label_set_cmp b → number_of label_set_cmp a k ≡ None → GetsNumber label_set_cmp a b k (next_number a) → map_of label_set_cmp b ≡ map_of label_set_cmp a
-      → next_number a < length removals.moments → IsTimed b c removals emptied flushes
+      → next_number a < length removals.moments → AreRemoved b removals
   alert_placed b k before after new gets shows room = record {
-    alerts_numbered = numbered_placed label_set_cmp_total label_set_cmp-IsAntisymmetric a b k (next_number a) gets before.within shows is.alerts_numbered;
-    timers_numbered = is.timers_numbered;
-    alerts_removed = scheduled_placed label_set_cmp_total label_set_cmp-IsAntisymmetric alert_moment a b removals k before after new gets shows room refl is.alerts_numbered is.alerts_removed;
-    groups_removed = is.groups_removed;
-    groups_flushed = is.groups_flushed;
+    numbered = numbered_placed label_set_cmp_total label_set_cmp-IsAntisymmetric a b k (next_number a) gets before.within shows is.numbered;
+    removed = scheduled_placed label_set_cmp_total label_set_cmp-IsAntisymmetric alert_moment a b removals k before after new gets shows room refl is.numbered is.removed;
+  }
+
+-- ---- the moments of groups
+
+module _ (c : Numbered RouteLabels GroupTimer) (removals flushes : Earliest) (is : AreTimed c removals flushes) where
+  pub timers_same : (d : Numbered RouteLabels GroupTimer) → d.numbers ≡ c.numbers → map_of route_labels_cmp d ≡ map_of route_labels_cmp c
+      → (e : Earliest) → ((n : ℕ) → moment_at e n ≡ moment_at removals n) → length removals.moments ≤ length e.moments → ((n : ℕ) → IsHeld e n → IsHeld removals n) → IsOrdered (rank_of route_labels_cmp c) e
+      → (f : Earliest) → ((n : ℕ) → moment_at f n ≡ moment_at flushes n) → length flushes.moments ≤ length f.moments → ((n : ℕ) → IsHeld f n → IsHeld flushes n) → IsOrdered (rank_of route_labels_cmp c) f → AreTimed d e f
+  timers_same d numbers shows e same_e longer_e held_e ordered_e f same_f longer_f held_f ordered_f = record {
+    numbered = numbered_same route_labels_cmp_total route_labels_cmp-IsAntisymmetric c d numbers shows is.numbered;
+    removed = scheduled_same route_labels_cmp_total route_labels_cmp-IsAntisymmetric removal_moment c d removals e numbers shows same_e longer_e held_e ordered_e is.removed;
+    flushed = scheduled_same route_labels_cmp_total route_labels_cmp-IsAntisymmetric flush_moment c d flushes f numbers shows same_f longer_f held_f ordered_f is.flushed;
+  }
+
+  pub timer_set : (d : Numbered RouteLabels GroupTimer) (e f : Earliest) (k : RouteLabels) (n : ℕ) (value : Option GroupTimer) → number_of route_labels_cmp c k ≡ Some n → d.numbers ≡ c.numbers → map_of route_labels_cmp d ≡ set (map_of route_labels_cmp c) k value
+      → e.moments ≡ slice_set removals.moments n (removal_moment value) → ((m : ℕ) → IsHeld e m → IsHeld removals m ⊎ (m ≡ n)) → IsOrdered (rank_of route_labels_cmp d) e
+      → f.moments ≡ slice_set flushes.moments n (flush_moment value) → ((m : ℕ) → IsHeld f m → IsHeld flushes m ⊎ (m ≡ n)) → IsOrdered (rank_of route_labels_cmp d) f → AreTimed d e f
+  timer_set d e f k n value at numbers shows moments_e held_e ordered_e moments_f held_f ordered_f = record {
+    numbered = numbered_set route_labels_cmp_total route_labels_cmp-IsAntisymmetric c d k n value at numbers shows is.numbered;
+    removed = scheduled_set route_labels_cmp_total route_labels_cmp-IsAntisymmetric removal_moment c d removals e k n value at numbers shows moments_e held_e ordered_e is.numbered is.removed;
+    flushed = scheduled_set route_labels_cmp_total route_labels_cmp-IsAntisymmetric flush_moment c d flushes f k n value at numbers shows moments_f held_f ordered_f is.numbered is.flushed;
   }
 
   pub timer_placed : (d : Numbered RouteLabels GroupTimer) (k : RouteLabels) → IsNumbering route_labels_cmp c → IsNumbering route_labels_cmp d → number_of route_labels_cmp c k ≡ None → GetsNumber route_labels_cmp c d k (next_number c) → map_of route_labels_cmp d ≡ map_of route_labels_cmp c
-      → next_number c < length emptied.moments → next_number c < length flushes.moments → IsTimed a d removals emptied flushes
+      → next_number c < length removals.moments → next_number c < length flushes.moments → AreTimed d removals flushes
   timer_placed d k before after new gets shows room_e room_f = record {
-    alerts_numbered = is.alerts_numbered;
-    timers_numbered = numbered_placed route_labels_cmp_total route_labels_cmp-IsAntisymmetric c d k (next_number c) gets before.within shows is.timers_numbered;
-    alerts_removed = is.alerts_removed;
-    groups_removed = scheduled_placed route_labels_cmp_total route_labels_cmp-IsAntisymmetric removal_moment c d emptied k before after new gets shows room_e refl is.timers_numbered is.groups_removed;
-    groups_flushed = scheduled_placed route_labels_cmp_total route_labels_cmp-IsAntisymmetric flush_moment c d flushes k before after new gets shows room_f refl is.timers_numbered is.groups_flushed;
+    numbered = numbered_placed route_labels_cmp_total route_labels_cmp-IsAntisymmetric c d k (next_number c) gets before.within shows is.numbered;
+    removed = scheduled_placed route_labels_cmp_total route_labels_cmp-IsAntisymmetric removal_moment c d removals k before after new gets shows room_e refl is.numbered is.removed;
+    flushed = scheduled_placed route_labels_cmp_total route_labels_cmp-IsAntisymmetric flush_moment c d flushes k before after new gets shows room_f refl is.numbered is.flushed;
   }
 
 pub group_none : (kind : Kind) → group_moment kind None ≡ None

@@ -1,6 +1,7 @@
 -- Records that can be put back, and places that are marked.
 use Rattle.std.proofs.Common.{◌≡◌, ◌≤◌, ℕ, Bool, true, false, ◌||◌, List, [], ◌∷◌, ◌++◌, Option, Some, None, IsTrue, refl, subst, sym, ap, cond, is_some, ◌∙◌, length, length-append, arith}
 use Rattle.std.proofs.Math.Nat.{le_refl}
+use Rattle.std.specs.Prelude.{IfSome}
 use Rattle.std.specs.List.{AllByRecursion}
 use Rattle.std.specs.declared.cmp.Ordering.{Ordering}
 use Rattle.std.specs.Ordering.{nat_cmp}
@@ -31,6 +32,11 @@ use Rattle.amr_engine.specs.State.Stored.{shown_by, state_of, kept_of, entries_o
 use Rattle.amr_engine.proofs.StateLemmas.Undoing.{unlike, put_back-change, put_back-push, put_back-entered, put_back-appended, covered, covered_notification, notes_entered-more, notes_entered-push, has_entry-push, has_entry-last, same_undone}
 use Rattle.amr_engine.proofs.StateLemmas.Fitting.{AreAlike, joined, fits-alike, fits-pushed, fits-pop, fits-rest, fits-covered, since_config-push, has_entry-since, joined-closed, joined-push}
 
+-- what was found is what there is
+pub found : {A : Type 0} (x o : Option A) → x ≡ o → IfSome o (λ a. x ≡ Some a)
+found x None e = tt
+found x (Some a) e = e
+
 -- ---- places
 
 sound-more : (a b : Tables) → MorePlaces a b → (e : Change) → IsSound a e → IsSound b e
@@ -38,7 +44,7 @@ sound-more a b more (OfMoment moment) h = h
 sound-more a b more (OfConfig config) h = h
 sound-more a b more (OfAlert labels alert) h = more.alerts labels h
 sound-more a b more (OfSilence id silence) h = more.silences id h
-sound-more a b more (OfMember member alert) h = (more.placements (member_on_route member) h.0, more.groups member.group h.1)
+sound-more a b more (OfMember member alert) h = (more.placements (member_on_route member) h.0, more.timers member.group h.1)
 sound-more a b more (OfTimer group timer) h = more.timers group h
 sound-more a b more (OfLog key entry) h = more.log key h
 sound-more a b more (OfNotes count) h = h
@@ -308,7 +314,6 @@ more_still a b c one two = record {
   alerts = λ k h. two.alerts k (one.alerts k h);
   silences = λ k h. two.silences k (one.silences k h);
   placements = λ k h. two.placements k (one.placements k h);
-  groups = λ k h. two.groups k (one.groups k h);
   timers = λ k h. two.timers k (one.timers k h);
   log = λ k h. two.log k (one.log k h);
 }
@@ -376,10 +381,10 @@ placed R t k n at = ap is_some at
 sound_back : (t : Tables) (s : State) (e : Change) (n : ℕ) → s.moment ≤ latest_read → IsPlaceOf t e n → IsSound t (change_back s e)
 sound_back t s (OfMoment moment) n late h = late
 sound_back t s (OfConfig config) n late h = tt
-sound_back t s (OfAlert labels alert) n late h = placed label_set_cmp t.timetable.alerts labels n h
+sound_back t s (OfAlert labels alert) n late h = placed label_set_cmp t.alerts labels n h
 sound_back t s (OfSilence id silence) n late h = placed nat_cmp t.silences id n h
 sound_back t s (OfMember member alert) n late h = (placed route_labels_cmp t.roster.placements (member_on_route member) n h.0, h.1)
-sound_back t s (OfTimer group timer) n late h = placed route_labels_cmp t.timetable.timers group n h
+sound_back t s (OfTimer group timer) n late h = placed route_labels_cmp t.roster.timers group n h
 sound_back t s (OfLog key entry) n late h = placed log_key_cmp t.log key n h
 sound_back t s (OfNotes count) n late h = tt
 
@@ -427,10 +432,10 @@ notes_apart s (OfNotes count) h = absurd h
 marked_alike : (t : Tables) (p e : Change) → same_place p e ≡ true → IsTrue (is_marked_at t e) → IsTrue (is_marked_at t p)
 marked_alike t (OfMoment a) (OfMoment b) is h = h
 marked_alike t (OfConfig a) (OfConfig b) is h = h
-marked_alike t (OfAlert a v) (OfAlert b w) is h = subst (λ k. IsTrue (is_entered label_set_cmp t.timetable.alerts k)) (sym (tells_apart label_set_cmp-IsAntisymmetric a b is)) h
+marked_alike t (OfAlert a v) (OfAlert b w) is h = subst (λ k. IsTrue (is_entered label_set_cmp t.alerts k)) (sym (tells_apart label_set_cmp-IsAntisymmetric a b is)) h
 marked_alike t (OfSilence a v) (OfSilence b w) is h = subst (λ k. IsTrue (is_entered nat_cmp t.silences k)) (sym (tells_apart nat_cmp-IsAntisymmetric a b is)) h
 marked_alike t (OfMember a v) (OfMember b w) is h = subst (λ k. IsTrue (is_entered route_labels_cmp t.roster.placements k)) (sym (tells_apart route_labels_cmp-IsAntisymmetric (member_on_route a) (member_on_route b) is)) h
-marked_alike t (OfTimer a v) (OfTimer b w) is h = subst (λ k. IsTrue (is_entered route_labels_cmp t.timetable.timers k)) (sym (tells_apart route_labels_cmp-IsAntisymmetric a b is)) h
+marked_alike t (OfTimer a v) (OfTimer b w) is h = subst (λ k. IsTrue (is_entered route_labels_cmp t.roster.timers k)) (sym (tells_apart route_labels_cmp-IsAntisymmetric a b is)) h
 marked_alike t (OfLog a v) (OfLog b w) is h = subst (λ k. IsTrue (is_entered log_key_cmp t.log k)) (sym (tells_apart log_key_cmp-IsAntisymmetric a b is)) h
 marked_alike t (OfNotes a) (OfNotes b) is h = h
 marked_alike t p e is h = absurd (unlike is)
@@ -448,7 +453,7 @@ kept_placed a t j kept same more marks closed current =
 pub kept_reserved : (a : Inside) (j : Records Change) → IsKept a → j.closed ≡ a.journal.closed → j.current ≡ a.journal.current → IsKept (record a { journal = j })
 kept_reserved a j kept closed current =
     kept_placed a a.tables j kept (record { moment = refl; config = refl; alerts = refl; silences = refl; placements = refl; timers = refl; log = refl; notes = refl })
-    (record { alerts = λ k h. h; silences = λ k h. h; placements = λ k h. h; groups = λ k h. h; timers = λ k h. h; log = λ k h. h }) (λ place h. h) closed current
+    (record { alerts = λ k h. h; silences = λ k h. h; placements = λ k h. h; timers = λ k h. h; log = λ k h. h }) (λ place h. h) closed current
 
 -- the change is of a place that has an entry
 fits_marked : (a b : Inside) (e : Change) → IsKept a → IsAllowed (state_of a) e → IsTrue (is_marked_at a.tables e) → state_of b ≡ after_change (state_of a) e → b.journal.closed ≡ a.journal.closed → b.journal.current ≡ a.journal.current

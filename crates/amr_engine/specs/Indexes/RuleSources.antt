@@ -1,5 +1,5 @@
 -- The label sets that can be sources of inhibition rules, as the table of alerts lists them.
-use Rattle.std.specs.Prelude.{◌≡◌, ◌≤◌, Bool, false, ◌&&◌, ◌||◌, List, map, length, take, Option, option_map, IsTrue, is_some}
+use Rattle.std.specs.Prelude.{◌≡◌, ◌≤◌, Bool, false, ◌&&◌, ◌||◌, List, map, length, take, Option, option_map, IsTrue}
 use Rattle.std.specs.List.{filter_map}
 use Rattle.std.specs.Borrow.{Bor}
 use Rattle.std.specs.Map.Iter.{deref_pair}
@@ -76,8 +76,3 @@ pairs_of = map deref_pair
 -- Each label set that has a place is among the arrived.
 abbrev pub AllArrived : Numbered LabelSet Alert → List LabelSet → Type 0
 AllArrived alerts arrived = (labels : LabelSet) → IsTrue (has_place label_set_cmp alerts labels) → IsTrue (has label_set_cmp arrived labels)
-
--- Each stored alert has a place, and the label sets that have one are among the arrived.
-pub record IsFollowed (alerts : Numbered LabelSet Alert) (sets : List LabelSet) : Type 0 where
-  pub stored : (labels : LabelSet) → IsTrue (is_some (get (map_of label_set_cmp alerts) labels)) → IsTrue (has_place label_set_cmp alerts labels)
-  pub arrived : AllArrived alerts sets

@@ -1,4 +1,4 @@
--- The configuration in force with the members of all groups, and which member is in which group.
+-- The configuration in force with the groups, their timers and their members.
 use Rattle.std.specs.Prelude.{◌≡◌, ◌<◌, ℕ, IsTrue, List, length, map, Option, Some, is_some, option_map}
 use Rattle.std.specs.Option.{option_and_then}
 use Rattle.std.specs.Borrow.{Bor}
@@ -8,6 +8,7 @@ use Rattle.amr_config.specs.Stated.Config.{Config}
 use Rattle.amr_rules.specs.declared.alert.Alert.{Alert}
 use Rattle.amr_tables.specs.Numbered.{Numbered, map_of, has_place, number_of, IsNumber}
 use Rattle.amr_tables.specs.Grouped.{Grouped, group_at}
+use Rattle.amr_engine.specs.declared.state.notification.GroupTimer.{GroupTimer}
 use Rattle.amr_engine.specs.declared.state.route_labels.RouteLabels.{RouteLabels}
 use Rattle.amr_engine.specs.State.State.{on_route, route_labels_cmp, group_key}
 use Rattle.amr_engine.specs.State.Timed.{AreNumbered}
@@ -16,25 +17,25 @@ use Rattle.amr_engine.specs.State.Timed.{AreNumbered}
 abbrev pub labels_of_members : List (LabelSet × Alert) → List LabelSet
 labels_of_members members = map (λ member. member.0) members
 
--- The configuration, the members, and the groups that have numbers.
+-- The configuration, the members, and the timers of groups.
 pub record Rostered : Type 0 where
   pub config : Config
   pub placements : Numbered RouteLabels Alert
-  pub groups : Numbered RouteLabels (Unit {0})
+  pub timers : Numbered RouteLabels GroupTimer
 
 -- the number of the group that a member is in, or none if there is no such member
-abbrev pub group_number : Config → Numbered RouteLabels (Unit {0}) → RouteLabels → Option Alert → Option ℕ
-group_number config groups route_labels alert = option_and_then (λ _. number_of route_labels_cmp groups (group_key config route_labels)) alert
+abbrev pub group_number : Config → Numbered RouteLabels GroupTimer → RouteLabels → Option Alert → Option ℕ
+group_number config timers route_labels alert = option_and_then (λ _. number_of route_labels_cmp timers (group_key config route_labels)) alert
 
 -- Each member is in its group, by the numbers of both, and no other number is in a group.
-pub record IsGrouped (config : Config) (placements : Numbered RouteLabels Alert) (groups : Numbered RouteLabels (Unit {0})) (members : Grouped) : Type 0 where
+pub record IsGrouped (config : Config) (placements : Numbered RouteLabels Alert) (timers : Numbered RouteLabels GroupTimer) (members : Grouped) : Type 0 where
   pub numbered : AreNumbered route_labels_cmp placements
-  pub groups_numbered : AreNumbered route_labels_cmp groups
-  pub grouped : (key : RouteLabels) (n : ℕ) → number_of route_labels_cmp placements key ≡ Some n → group_at members n ≡ group_number config groups key (get (map_of route_labels_cmp placements) key)
-  pub known : (key : RouteLabels) → IsTrue (is_some (get (map_of route_labels_cmp placements) key)) → IsTrue (has_place route_labels_cmp groups (group_key config key))
+  pub groups_numbered : AreNumbered route_labels_cmp timers
+  pub grouped : (key : RouteLabels) (n : ℕ) → number_of route_labels_cmp placements key ≡ Some n → group_at members n ≡ group_number config timers key (get (map_of route_labels_cmp placements) key)
+  pub known : (key : RouteLabels) → IsTrue (is_some (get (map_of route_labels_cmp placements) key)) → IsTrue (has_place route_labels_cmp timers (group_key config key))
   pub named : (n g : ℕ) → group_at members n ≡ Some g → IsNumber route_labels_cmp placements n
   pub room : (key : RouteLabels) (n : ℕ) → number_of route_labels_cmp placements key ≡ Some n → n < length members.groups
-  pub group_room : (group : RouteLabels) (g : ℕ) → number_of route_labels_cmp groups group ≡ Some g → g < members.count
+  pub group_room : (group : RouteLabels) (g : ℕ) → number_of route_labels_cmp timers group ≡ Some g → g < members.count
 
 -- the label set with its number is a member on the route
 abbrev pub IsNumbered : Numbered RouteLabels Alert → ℕ → LabelSet × ℕ → Type 0

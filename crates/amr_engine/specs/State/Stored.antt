@@ -22,10 +22,10 @@ abbrev pub shown_by : Tables → State
 shown_by tables = record {
   moment = tables.moment;
   config = tables.roster.config;
-  alerts = map_of label_set_cmp tables.timetable.alerts;
+  alerts = map_of label_set_cmp tables.alerts;
   silences = map_of nat_cmp tables.silences;
   placements = map_of route_labels_cmp tables.roster.placements;
-  timers = map_of route_labels_cmp tables.timetable.timers;
+  timers = map_of route_labels_cmp tables.roster.timers;
   log = map_of log_key_cmp tables.log;
   notes = tables.notes.items;
 }
@@ -46,10 +46,10 @@ kept_of store = record {
 abbrev pub IsSound : Tables → Change → Type 0
 IsSound tables (OfMoment moment) = moment ≤ latest_read
 IsSound tables (OfConfig config) = Unit {0}
-IsSound tables (OfAlert labels alert) = IsTrue (has_place label_set_cmp tables.timetable.alerts labels)
+IsSound tables (OfAlert labels alert) = IsTrue (has_place label_set_cmp tables.alerts labels)
 IsSound tables (OfSilence id silence) = IsTrue (has_place nat_cmp tables.silences id)
-IsSound tables (OfMember member alert) = IsTrue (has_place route_labels_cmp tables.roster.placements (member_on_route member)) × IsTrue (has_place route_labels_cmp tables.roster.groups member.group)
-IsSound tables (OfTimer group timer) = IsTrue (has_place route_labels_cmp tables.timetable.timers group)
+IsSound tables (OfMember member alert) = IsTrue (has_place route_labels_cmp tables.roster.placements (member_on_route member)) × IsTrue (has_place route_labels_cmp tables.roster.timers member.group)
+IsSound tables (OfTimer group timer) = IsTrue (has_place route_labels_cmp tables.roster.timers group)
 IsSound tables (OfLog key entry) = IsTrue (has_place log_key_cmp tables.log key)
 IsSound tables (OfNotes count) = Unit {0}
 
@@ -61,20 +61,20 @@ AreSound tables = AllByRecursion (IsSound tables)
 abbrev pub is_marked_at : Tables → Change → Bool
 is_marked_at tables (OfMoment moment) = tables.is_moment_entered
 is_marked_at tables (OfConfig config) = false
-is_marked_at tables (OfAlert labels alert) = is_entered label_set_cmp tables.timetable.alerts labels
+is_marked_at tables (OfAlert labels alert) = is_entered label_set_cmp tables.alerts labels
 is_marked_at tables (OfSilence id silence) = is_entered nat_cmp tables.silences id
 is_marked_at tables (OfMember member alert) = is_entered route_labels_cmp tables.roster.placements (member_on_route member)
-is_marked_at tables (OfTimer group timer) = is_entered route_labels_cmp tables.timetable.timers group
+is_marked_at tables (OfTimer group timer) = is_entered route_labels_cmp tables.roster.timers group
 is_marked_at tables (OfLog key entry) = is_entered log_key_cmp tables.log key
 is_marked_at tables (OfNotes count) = tables.are_notes_entered
 
 -- the number is that of the change's place, and a member's group has a number; the clock, the
 -- configuration and the notifications are in no table
 abbrev pub IsPlaceOf : Tables → Change → ℕ → Type 0
-IsPlaceOf tables (OfAlert labels alert) n = number_of label_set_cmp tables.timetable.alerts labels ≡ Some n
+IsPlaceOf tables (OfAlert labels alert) n = number_of label_set_cmp tables.alerts labels ≡ Some n
 IsPlaceOf tables (OfSilence id silence) n = number_of nat_cmp tables.silences id ≡ Some n
-IsPlaceOf tables (OfMember member alert) n = (number_of route_labels_cmp tables.roster.placements (member_on_route member) ≡ Some n) × IsTrue (has_place route_labels_cmp tables.roster.groups member.group)
-IsPlaceOf tables (OfTimer group timer) n = number_of route_labels_cmp tables.timetable.timers group ≡ Some n
+IsPlaceOf tables (OfMember member alert) n = (number_of route_labels_cmp tables.roster.placements (member_on_route member) ≡ Some n) × IsTrue (has_place route_labels_cmp tables.roster.timers member.group)
+IsPlaceOf tables (OfTimer group timer) n = number_of route_labels_cmp tables.roster.timers group ≡ Some n
 IsPlaceOf tables (OfLog key entry) n = number_of log_key_cmp tables.log key ≡ Some n
 IsPlaceOf tables _ n = Unit {0}
 
@@ -92,21 +92,20 @@ IsUnmarked tables = (place : Change) → is_marked_at tables place ≡ false
 
 -- the second tables have all places of the first
 pub record MorePlaces (a b : Tables) : Type 0 where
-  pub alerts : (k : LabelSet) → IsTrue (has_place label_set_cmp a.timetable.alerts k) → IsTrue (has_place label_set_cmp b.timetable.alerts k)
+  pub alerts : (k : LabelSet) → IsTrue (has_place label_set_cmp a.alerts k) → IsTrue (has_place label_set_cmp b.alerts k)
   pub silences : (k : ℕ) → IsTrue (has_place nat_cmp a.silences k) → IsTrue (has_place nat_cmp b.silences k)
   pub placements : (k : RouteLabels) → IsTrue (has_place route_labels_cmp a.roster.placements k) → IsTrue (has_place route_labels_cmp b.roster.placements k)
-  pub groups : (k : RouteLabels) → IsTrue (has_place route_labels_cmp a.roster.groups k) → IsTrue (has_place route_labels_cmp b.roster.groups k)
-  pub timers : (k : RouteLabels) → IsTrue (has_place route_labels_cmp a.timetable.timers k) → IsTrue (has_place route_labels_cmp b.timetable.timers k)
+  pub timers : (k : RouteLabels) → IsTrue (has_place route_labels_cmp a.roster.timers k) → IsTrue (has_place route_labels_cmp b.roster.timers k)
   pub log : (k : LogKey) → IsTrue (has_place log_key_cmp a.log k) → IsTrue (has_place log_key_cmp b.log k)
 
 -- both tables have the same values
 pub record SameValues (a b : Tables) : Type 0 where
   pub moment : b.moment ≡ a.moment
   pub config : b.roster.config ≡ a.roster.config
-  pub alerts : map_of label_set_cmp b.timetable.alerts ≡ map_of label_set_cmp a.timetable.alerts
+  pub alerts : map_of label_set_cmp b.alerts ≡ map_of label_set_cmp a.alerts
   pub silences : map_of nat_cmp b.silences ≡ map_of nat_cmp a.silences
   pub placements : map_of route_labels_cmp b.roster.placements ≡ map_of route_labels_cmp a.roster.placements
-  pub timers : map_of route_labels_cmp b.timetable.timers ≡ map_of route_labels_cmp a.timetable.timers
+  pub timers : map_of route_labels_cmp b.roster.timers ≡ map_of route_labels_cmp a.roster.timers
   pub log : map_of log_key_cmp b.log ≡ map_of log_key_cmp a.log
   pub notes : b.notes.items ≡ a.notes.items
 

@@ -1,4 +1,4 @@
--- The stored alerts and the group timers, with the moments of their pending timers by number.
+-- The moments of the pending timers of alerts and groups, by number.
 use Rattle.std.specs.Prelude.{◌≡◌, ◌<◌, ℕ, false, IsTrue, List, length, Option, Some, None, is_some, option_map, nat_lt, if◌then◌else◌}
 use Rattle.std.specs.Option.{option_and_then}
 use Rattle.std.specs.declared.cmp.Ordering.{Ordering}
@@ -16,15 +16,11 @@ use Rattle.amr_engine.specs.declared.state.due.Kind.{Kind}
 use Rattle.amr_engine.specs.declared.state.due.Kind.TheVariants.{AlertRemoval, GroupRemoval, GroupFlush}
 use Rattle.amr_engine.specs.declared.state.due.Timer.{Timer}
 use Rattle.amr_engine.specs.declared.state.due.Timer.TheVariants as timer
-use Rattle.amr_engine.specs.declared.state.timetable.Pending.{Pending}
-use Rattle.amr_engine.specs.declared.state.timetable.TimerRef.{TimerRef}
-use Rattle.amr_engine.specs.declared.state.timetable.TimerRef.TheVariants as ref
+use Rattle.amr_engine.specs.declared.state.pending.Pending.{Pending}
+use Rattle.amr_engine.specs.declared.state.pending.TimerRef.{TimerRef}
+use Rattle.amr_engine.specs.declared.state.pending.TimerRef.TheVariants as ref
 use Rattle.amr_engine.specs.State.State.{route_labels_cmp}
 use Rattle.amr_engine.specs.State.Dues.{Due, due_at, due_cmp, alert_removal_at, group_removal_at}
-
-pub record Timed : Type 0 where
-  pub alerts : Numbered LabelSet Alert
-  pub timers : Numbered RouteLabels GroupTimer
 
 -- when an alert is removed
 abbrev pub alert_moment : Option Alert → Option Moment
@@ -58,13 +54,17 @@ module _ {K V : Type 0} (R : K → K → Ordering) where
     pub room : (key : K) (n : ℕ) → number_of R t key ≡ Some n → n < length moments.moments
     pub ordered : IsOrdered (rank_of R t) moments
 
--- The moments are those of the alerts and timers, and of several at one moment the names decide.
-pub record IsTimed (alerts : Numbered LabelSet Alert) (timers : Numbered RouteLabels GroupTimer) (alert_removals group_removals flushes : Earliest) : Type 0 where
-  pub alerts_numbered : AreNumbered label_set_cmp alerts
-  pub timers_numbered : AreNumbered route_labels_cmp timers
-  pub alerts_removed : IsScheduled label_set_cmp alert_moment alerts alert_removals
-  pub groups_removed : IsScheduled route_labels_cmp removal_moment timers group_removals
-  pub groups_flushed : IsScheduled route_labels_cmp flush_moment timers flushes
+-- The moments are those at which the alerts are removed, and of several at one moment the names
+-- decide.
+pub record AreRemoved (alerts : Numbered LabelSet Alert) (removals : Earliest) : Type 0 where
+  pub numbered : AreNumbered label_set_cmp alerts
+  pub removed : IsScheduled label_set_cmp alert_moment alerts removals
+
+-- The moments are those of the timers, and of several at one moment the names decide.
+pub record AreTimed (timers : Numbered RouteLabels GroupTimer) (removals flushes : Earliest) : Type 0 where
+  pub numbered : AreNumbered route_labels_cmp timers
+  pub removed : IsScheduled route_labels_cmp removal_moment timers removals
+  pub flushed : IsScheduled route_labels_cmp flush_moment timers flushes
 
 -- ---- the first timer
 

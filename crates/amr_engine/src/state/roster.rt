@@ -1,68 +1,86 @@
-//! The configuration in force with the members of all groups, and which member is in which group.
-//! `Store` changes it. The group of a member depends on the configuration, so both are kept
-//! together.
-ghost use Rattle.std.specs.Prelude.{◌≡◌, ◌<◌, ◌+◌, ◌++◌, [], IsTrue, Some, None, map, OnOk, IfOk};
-ghost use Rattle.std.specs.Option.{option_and_then};
+//! The configuration in force with the groups: their timers and their members. `Store` changes it.
+//! The group of a member depends on the configuration, so both are kept together. This is all that a
+//! change of the configuration drops.
+ghost use Rattle.std.specs.Prelude.{◌≡◌, ◌≢◌, ◌+◌, ◌++◌, [], true, false, IsTrue, Some, None, map, is_some, option_map, OnOk, IfOk};
+ghost use Rattle.std.specs.Option.{option_and_then, option_copied};
+ghost use Rattle.amr_labels.specs.Labels.{label_set_cmp};
 ghost use Rattle.amr_labels.specs.Map as map;
 ghost use Rattle.amr_config.specs.Groups.{groups_of};
 ghost use Rattle.amr_config.specs.Stated.RuleMatches.{rule_matches};
-ghost use Rattle.amr_tables.specs.Numbered.{map_of, has_place, number_of, next_number, IsMarkOf, IsNumbering, IsSetAt, IsValueOf, KeepsPlaces, SamePlaces, EntersAt, SameEntered, NoneEntered};
+ghost use Rattle.amr_tables.specs.Numbered.{map_of, has_place, number_of, key_at, next_number, IsMarkOf, IsNumber, IsNumbering, IsSetAt, IsValueOf, KeepsPlaces, SamePlaces, EntersAt, SameEntered, NoneEntered};
 ghost use Rattle.std.specs.List.{All, filter_map, cons_option};
 ghost use Rattle.amr_engine.specs.State.State.{member_on_route, route_labels_cmp, group_key, members_among};
+ghost use Rattle.amr_engine.specs.State.Dues.{dues_of, kind_of, group_of};
+ghost use Rattle.amr_engine.specs.declared.state.due.Kind.TheVariants.{AlertRemoval, GroupRemoval, GroupFlush};
+ghost use Rattle.amr_engine.specs.State.Timed.{AreNumbered, IsScheduled, IsFirstOfKind, flush_moment, removal_moment, group_moment, timer_of, due_of};
 ghost use Rattle.amr_engine.specs.State.Rostered.{labels_of_members, labels_of_numbered, numbered_labels, with_alert, IsNumbered};
 
 use crate::state::change::BoxedRouter;
+use crate::state::due::{Kind, group_removal};
 use crate::state::members::Member;
 use crate::state::membership::Membership;
+use crate::state::notification::GroupTimer;
+use crate::state::pending::{Pending, TimerRef, make_room};
 use crate::state::route_labels::RouteLabels;
 use amr_config::stated::RuleMatch;
 use amr_config::{Config, RouteGroup, Router};
 use amr_labels::{Labels, Listing, Shared};
 use amr_rules::Alert;
-use amr_tables::{Grouped, Keyed};
+use amr_tables::{Earliest, Grouped, Keyed};
+use amr_time::Moment;
 use std::alloc::{AllocError, Global};
 use std::marker::Model;
 
-/// The configuration in force and the members of all groups. Every change of a member puts its
-/// number into the number of its group, or takes it out.
+/// The configuration in force, and the groups with their timers and members. Every change of a
+/// member puts its number into the number of its group, or takes it out, and every change of a timer
+/// updates its moments.
 #[derive(Drop)]
 pub(crate) struct Roster {
     alloc: Global,
     config: Router,
     placements: Keyed<RouteLabels, Alert>,
-    /// The numbers of the groups that ever had a member. No value is kept of them.
-    groups: Keyed<RouteLabels, ()>,
+    timers: Keyed<RouteLabels, GroupTimer>,
     /// The group of each member, by their numbers.
     members: Grouped,
+    /// When each group without members is removed, by their numbers.
+    removals: Earliest,
+    /// When each group is flushed, by their numbers.
+    flushes: Earliest,
 }
 
 impl Model for Roster {
     ghost use Rattle.std.specs.Coded.{codes};
     ghost use Rattle.amr_labels.specs.Map as map;
     ghost use Rattle.amr_engine.specs.State.Rostered.{Rostered, IsGrouped};
+    ghost use Rattle.amr_engine.specs.State.Timed.{AreTimed};
 
     ghost Value = { Rostered };
 
     ghost coded = { Prim.hlevel (codes, map.code) };
 
-    ghost view = { λ r. record { config = r.config; placements = r.placements; groups = r.groups } };
+    ghost view = { λ r. record { config = r.config; placements = r.placements; timers = r.timers } };
 
-    ghost invariant = { λ r. IsGrouped r.config r.placements r.groups r.members };
+    ghost invariant = { λ r. IsGrouped r.config r.placements r.timers r.members
+        × AreTimed r.timers r.removals r.flushes };
 }
 
 impl Roster {
-    /// Builds a roster without members.
+    /// Builds a roster without groups.
     pub(crate) fn new(alloc: Global, config: Config) -> Roster
         ensures config { result.config ≡ config }
         ensures shown { map_of route_labels_cmp result.placements ≡ map.empty }
         ensures entered { NoneEntered route_labels_cmp result.placements }
+        ensures timers { map_of route_labels_cmp result.timers ≡ map.empty }
+        ensures timers_entered { NoneEntered route_labels_cmp result.timers }
     {
         Roster {
             alloc,
             config: Router::new(alloc, config),
             placements: Keyed::new(alloc),
-            groups: Keyed::new(alloc),
+            timers: Keyed::new(alloc),
             members: Grouped::new(alloc),
+            removals: Earliest::new(alloc),
+            flushes: Earliest::new(alloc),
         }
     }
 
@@ -99,6 +117,45 @@ impl Roster {
         ensures { result.now ≡ self.now.placements }
     {
         &self.placements
+    }
+
+    /// Returns the timers of groups.
+    pub(crate) fn timers(&self) -> &Keyed<RouteLabels, GroupTimer>
+        ensures { result.now ≡ self.now.timers }
+    {
+        &self.timers
+    }
+
+    /// Returns the number of a group, if it has one, and its timer. It compares the group that is
+    /// flushed next before it looks for the group, since that is mostly the one.
+    pub(crate) fn look_up_timer(&self, group: &RouteLabels) -> (Option<usize>, Option<&GroupTimer>)
+        ensures number { result.0 ≡ number_of route_labels_cmp self.now.timers group.now }
+        ensures value { option_copied result.1
+            ≡ map.get (map_of route_labels_cmp self.now.timers) group.now }
+        ensures placed { IsTrue (is_some result.1) → IsTrue (is_some result.0) }
+    {
+        match self.flushes.first(&self.timers) {
+            Some(number) if is_key_at(&self.timers, number, group) => {
+                (Some(number), self.timers.at(number))
+            }
+            _ => self.timers.look_up_number(group),
+        }
+    }
+
+    /// Returns the first removal of a group.
+    pub(crate) fn first_removal(&self) -> Option<Pending<'_>>
+        ensures { (alerts : map.Map label_set_cmp Alert) → IsFirstOfKind GroupRemoval
+            (dues_of alerts (map_of route_labels_cmp self.now.timers)) (option_map due_of result) }
+    {
+        first_group(&self.timers, &self.removals, Kind::GroupRemoval)
+    }
+
+    /// Returns the first flush of a group.
+    pub(crate) fn first_flush(&self) -> Option<Pending<'_>>
+        ensures { (alerts : map.Map label_set_cmp Alert) → IsFirstOfKind GroupFlush
+            (dues_of alerts (map_of route_labels_cmp self.now.timers)) (option_map due_of result) }
+    {
+        first_group(&self.timers, &self.flushes, Kind::GroupFlush)
     }
 
     /// Returns the members of a group, by labels. Its time doesn't grow with the number of members
@@ -140,7 +197,8 @@ impl Roster {
             (map numbered_labels found.items)) }
     {
         let mut found = Vec::new(self.alloc);
-        let Some(number) = self.groups.number_of(group) else {
+        let (number, _) = self.look_up_timer(group);
+        let Some(number) = number else {
             return Ok(found);
         };
         let members = self.members.numbers_of(number)?;
@@ -161,10 +219,14 @@ impl Roster {
             ≡ map_of route_labels_cmp self.old.placements }
         ensures places { SamePlaces route_labels_cmp self.old.placements self.new.placements }
         ensures entered { NoneEntered route_labels_cmp self.new.placements }
-        ensures groups { self.new.groups ≡ self.old.groups }
+        ensures timers { map_of route_labels_cmp self.new.timers
+            ≡ map_of route_labels_cmp self.old.timers }
+        ensures timer_places { SamePlaces route_labels_cmp self.old.timers self.new.timers }
+        ensures timers_entered { NoneEntered route_labels_cmp self.new.timers }
         ensures config { self.new.config ≡ self.old.config }
     {
         self.placements.clear_entered();
+        self.timers.clear_entered();
     }
 
     /// Returns the number of a member's place. Makes the place if there is none, and gives the
@@ -174,12 +236,15 @@ impl Roster {
         ensures number { IfOk result (λ number. number_of route_labels_cmp self.new.placements
             (member_on_route member.now) ≡ Some number) }
         ensures known { OnOk result
-            (IsTrue (has_place route_labels_cmp self.new.groups member.now.group)) }
+            (IsTrue (has_place route_labels_cmp self.new.timers member.now.group)) }
         ensures shown { map_of route_labels_cmp self.new.placements
             ≡ map_of route_labels_cmp self.old.placements }
         ensures entered { SameEntered route_labels_cmp self.old.placements self.new.placements }
         ensures places { KeepsPlaces route_labels_cmp self.old.placements self.new.placements }
-        ensures groups { KeepsPlaces route_labels_cmp self.old.groups self.new.groups }
+        ensures timers { map_of route_labels_cmp self.new.timers
+            ≡ map_of route_labels_cmp self.old.timers }
+        ensures timers_entered { SameEntered route_labels_cmp self.old.timers self.new.timers }
+        ensures timer_places { KeepsPlaces route_labels_cmp self.old.timers self.new.timers }
         ensures config { self.new.config ≡ self.old.config }
     {
         let (number, alert) = self.placements.look_up_number(&member.member);
@@ -204,7 +269,7 @@ impl Roster {
     ) -> bool
         requires place { number_of route_labels_cmp self.old.placements
             (member_on_route member.now) ≡ Some number }
-        requires known { IsTrue (has_place route_labels_cmp self.old.groups member.now.group) }
+        requires known { IsTrue (has_place route_labels_cmp self.old.timers member.now.group) }
         requires group { member.now.group ≡ group_key self.old.config (member_on_route member.now) }
         ensures former { IsValueOf route_labels_cmp self.old.placements number alert.new }
         ensures was_entered { IsMarkOf route_labels_cmp self.old.placements number result }
@@ -213,13 +278,13 @@ impl Roster {
         ensures places { SamePlaces route_labels_cmp self.old.placements self.new.placements }
         ensures entered { EntersAt route_labels_cmp self.old.placements number
             self.new.placements }
-        ensures groups { self.new.groups ≡ self.old.groups }
+        ensures timers { self.new.timers ≡ self.old.timers }
         ensures config { self.new.config ≡ self.old.config }
     {
         if self.placements.at(number).is_some() == alert.is_some() {
             return self.placements.swap_at(number, alert);
         }
-        let in_group = group_if_member(&self.groups, &member.group, alert);
+        let in_group = group_if_member(&self.timers, &member.group, alert);
         let was_entered = self.placements.swap_at(number, alert);
         self.members.set(number, in_group);
         was_entered
@@ -232,38 +297,72 @@ impl Roster {
         ensures before { config.new ≡ self.old.config }
         ensures config { self.new.config ≡ config.old }
         ensures placements { self.new.placements ≡ self.old.placements }
-        ensures groups { self.new.groups ≡ self.old.groups }
+        ensures timers { self.new.timers ≡ self.old.timers }
     {
         config.swap(&mut self.config);
     }
 
-    /// Returns the number of a group. Gives it one if it has none.
-    fn place_group(&mut self, group: &RouteLabels) -> Result<usize, AllocError>
-        ensures number { IfOk result (λ number.
-            number_of route_labels_cmp self.new.groups group.now ≡ Some number) }
-        ensures groups { KeepsPlaces route_labels_cmp self.old.groups self.new.groups }
+    /// Swaps the timer of the group with a number, or `None` if it has none, with another, and marks
+    /// its place as entered. Returns whether the place was marked before. It takes no memory.
+    #[inline(always)]
+    pub(crate) fn swap_timer(&mut self, number: usize, timer: &mut Option<GroupTimer>) -> bool
+        requires { IsNumber route_labels_cmp self.old.timers number }
+        ensures former { IsValueOf route_labels_cmp self.old.timers number timer.new }
+        ensures was_entered { IsMarkOf route_labels_cmp self.old.timers number result }
+        ensures shown { IsSetAt route_labels_cmp self.old.timers number timer.old self.new.timers }
+        ensures places { SamePlaces route_labels_cmp self.old.timers self.new.timers }
+        ensures entered { EntersAt route_labels_cmp self.old.timers number self.new.timers }
         ensures placements { self.new.placements ≡ self.old.placements }
         ensures config { self.new.config ≡ self.old.config }
     {
-        match self.groups.number_of(group) {
+        let flush = flush_moment(timer);
+        let removal = removal_moment(timer);
+        // The prover needs to see the type of moments here.
+        let _start = Moment::START;
+        let was_entered = self.timers.swap_at(number, timer);
+        self.flushes.set(&self.timers, number, flush);
+        self.removals.set(&self.timers, number, removal);
+        was_entered
+    }
+
+    /// Returns the number of a group's place. Makes the place if there is none.
+    pub(crate) fn place_group(&mut self, group: &RouteLabels) -> Result<usize, AllocError>
+        ensures number { IfOk result (λ number.
+            number_of route_labels_cmp self.new.timers group.now ≡ Some number) }
+        ensures shown { map_of route_labels_cmp self.new.timers
+            ≡ map_of route_labels_cmp self.old.timers }
+        ensures entered { SameEntered route_labels_cmp self.old.timers self.new.timers }
+        ensures places { KeepsPlaces route_labels_cmp self.old.timers self.new.timers }
+        ensures placements { self.new.placements ≡ self.old.placements }
+        ensures config { self.new.config ≡ self.old.config }
+    {
+        match self.timers.number_of(group) {
             Some(number) => Ok(number),
             None => self.add_group(group),
         }
     }
 
-    /// Gives a number to a group that has none, with room for its members.
+    /// Makes a place for a group that has none, with room for its members and its moments. Returns
+    /// its number.
     fn add_group(&mut self, group: &RouteLabels) -> Result<usize, AllocError>
-        requires { number_of route_labels_cmp self.old.groups group.now ≡ None }
+        requires { number_of route_labels_cmp self.old.timers group.now ≡ None }
         ensures number { IfOk result (λ number.
-            number_of route_labels_cmp self.new.groups group.now ≡ Some number) }
-        ensures groups { KeepsPlaces route_labels_cmp self.old.groups self.new.groups }
+            number_of route_labels_cmp self.new.timers group.now ≡ Some number) }
+        ensures shown { map_of route_labels_cmp self.new.timers
+            ≡ map_of route_labels_cmp self.old.timers }
+        ensures entered { SameEntered route_labels_cmp self.old.timers self.new.timers }
+        ensures places { KeepsPlaces route_labels_cmp self.old.timers self.new.timers }
         ensures placements { self.new.placements ≡ self.old.placements }
         ensures config { self.new.config ≡ self.old.config }
     {
         let key = group.clone()?;
-        let count = count_with_next(&self.groups)?;
+        let count = count_with_next(&self.timers)?;
         self.members.reserve_groups(count)?;
-        let number = self.groups.make_place(key)?;
+        make_room(&mut self.flushes, &self.timers)?;
+        make_room(&mut self.removals, &self.timers)?;
+        // Groups are flushed in turn. Without room in the queue, their moments take longer.
+        drop(self.flushes.reserve_queue());
+        let number = self.timers.make_place(key)?;
         Ok(number)
     }
 
@@ -276,7 +375,7 @@ impl Roster {
             ≡ map_of route_labels_cmp self.old.placements }
         ensures entered { SameEntered route_labels_cmp self.old.placements self.new.placements }
         ensures places { KeepsPlaces route_labels_cmp self.old.placements self.new.placements }
-        ensures groups { self.new.groups ≡ self.old.groups }
+        ensures timers { self.new.timers ≡ self.old.timers }
         ensures config { self.new.config ≡ self.old.config }
     {
         let key = route_labels.clone()?;
@@ -290,16 +389,16 @@ impl Roster {
 /// Returns the number of a group, if there is an alert to be its member. Without one it looks nothing
 /// up.
 fn group_if_member(
-    groups: &Keyed<RouteLabels, ()>,
+    timers: &Keyed<RouteLabels, GroupTimer>,
     group: &RouteLabels,
     alert: &Option<Alert>,
 ) -> Option<usize>
     ensures { result
-        ≡ option_and_then (λ _. number_of route_labels_cmp groups.now group.now) alert.now }
+        ≡ option_and_then (λ _. number_of route_labels_cmp timers.now group.now) alert.now }
 {
     match alert {
         None => None,
-        Some(_) => groups.number_of(group),
+        Some(_) => timers.number_of(group),
     }
 }
 
@@ -362,4 +461,70 @@ fn push_member(
         found.push((labels.clone()?, alert.clone()?))?;
     }
     Ok(())
+}
+
+/// Returns whether a group is the key with a number.
+fn is_key_at(timers: &Keyed<RouteLabels, GroupTimer>, number: usize, group: &RouteLabels) -> bool
+    ensures key { result ≡ true → key_at timers.now number ≡ Some group.now }
+    ensures other { result ≡ false → key_at timers.now number ≢ Some group.now }
+    ensures numbering { IsNumbering route_labels_cmp timers.now }
+{
+    match timers.key_at(number) {
+        None => false,
+        Some(key) => key == group,
+    }
+}
+
+/// Returns the first timer of a kind of groups, given the moments of all.
+fn first_group<'a>(
+    timers: &'a Keyed<RouteLabels, GroupTimer>,
+    moments: &Earliest,
+    kind: Kind,
+) -> Option<Pending<'a>>
+    requires group { kind ≢ AlertRemoval }
+    requires numbered { AreNumbered route_labels_cmp timers.now }
+    requires scheduled { IsScheduled route_labels_cmp (group_moment kind) timers.now moments.now }
+    ensures { (alerts : map.Map label_set_cmp Alert) → IsFirstOfKind kind
+        (dues_of alerts (map_of route_labels_cmp timers.now)) (option_map due_of result) }
+{
+    let number = moments.first(timers)?;
+    let moment = moments.at(number)?;
+    let group = timers.key_at(number)?;
+    let timer = timer_of_kind(group, kind);
+    Some(Pending { moment, timer })
+}
+
+/// Returns the timer of a kind of a group.
+fn timer_of_kind<'a>(group: &'a RouteLabels, kind: Kind) -> TimerRef<'a>
+    requires { kind ≢ AlertRemoval }
+    ensures kind { kind_of (timer_of result) ≡ kind }
+    ensures group { group_of (timer_of result) ≡ group.now }
+{
+    match kind {
+        Kind::AlertRemoval => unreachable!(),
+        Kind::GroupRemoval => TimerRef::GroupRemoval(group),
+        Kind::GroupFlush => TimerRef::GroupFlush(group),
+    }
+}
+
+/// Returns when a group with this timer is flushed, in nanoseconds since 1970, or `None` without a
+/// timer.
+fn flush_moment(timer: &Option<GroupTimer>) -> Option<u128>
+    ensures { result ≡ flush_moment timer.now }
+{
+    match timer {
+        None => None,
+        Some(timer) => Some(timer.next_flush.nanoseconds()),
+    }
+}
+
+/// Returns when a group with this timer is removed, in nanoseconds since 1970, or `None` without a
+/// timer or while the group has members.
+fn removal_moment(timer: &Option<GroupTimer>) -> Option<u128>
+    ensures { result ≡ removal_moment timer.now }
+{
+    match timer {
+        None => None,
+        Some(timer) => group_removal(timer),
+    }
 }

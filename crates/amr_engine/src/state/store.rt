@@ -1,10 +1,11 @@
 //! The state of the replayed instance and its journal. The engine changes the state only through
 //! `Store`, which enters for each change the one that leads back into the open record, so that an
-//! event can be undone. It decides nothing about alerts, groups or silences, but it asks the dedup
-//! check of `amr_rules` whether an entry of the notification log is due, since it finds the former
-//! entry.
+//! event can be undone. It decides nothing about alerts, groups or silences, but it asks `amr_rules`
+//! whether an entry of the notification log is due, and what is stored of a new alert, since it finds
+//! what was there before.
 ghost use Rattle.std.specs.Prelude.{◌≡◌, ◌≤◌, ◌<◌, ◌+◌, ◌++◌, ◌∷◌, ◌==◌, [], ℕ, Option, Some, None, length, OnOk, IfOk, IfSome};
 ghost use Rattle.std.specs.Prelude.{if◌then◌else◌, is_some, option_map, slice_get};
+ghost use Rattle.std.specs.Option.{option_copied};
 ghost use Rattle.std.specs.Ordering.{nat_cmp};
 ghost use Rattle.amr_labels.specs.Labels.{label_set_cmp};
 ghost use Rattle.amr_config.specs.Groups.{groups_of};
@@ -13,6 +14,7 @@ ghost use Rattle.amr_labels.specs.Map as map;
 ghost use Rattle.amr_labels.specs.Map.{len};
 ghost use Rattle.amr_tables.specs.Numbered.{map_of};
 ghost use Rattle.amr_time.specs.Time.{latest_read};
+ghost use Rattle.amr_rules.specs.Alerts.{alert_to_store};
 ghost use Rattle.amr_rules.specs.Muting.{is_silenced, silencer_of};
 ghost use Rattle.amr_engine.specs.State.State.{start, members, group_key, timers_after_flush, route_labels_cmp, log_key_cmp};
 ghost use Rattle.amr_engine.specs.State.Dues.{next_due};
@@ -20,24 +22,24 @@ ghost use Rattle.amr_engine.specs.State.Logged.{is_due};
 ghost use Rattle.amr_engine.specs.State.Kept.{GrownBy, before_open_record};
 ghost use Rattle.amr_engine.specs.State.Rostered.{labels_of_members};
 ghost use Rattle.amr_engine.specs.State.Records.{after_change};
-ghost use Rattle.amr_engine.specs.State.Fitting.{FitsOne, IsAllowed};
-ghost use Rattle.amr_engine.specs.State.Stored.{shown_by, IsEntered, IsPlaceOf, MorePlaces, NoNewMark, SameValues};
+ghost use Rattle.amr_engine.specs.State.Fitting.{IsAllowed};
 
-use crate::indexes::{AlertTable, SilenceTable};
+use crate::indexes::SilenceTable;
+use crate::state::alert_table::AlertTable;
 use crate::state::change::{BoxedRouter, Change};
 use crate::state::due::Due;
+use crate::state::entering::{enter, make_room};
 use crate::state::members::Member;
 use crate::state::membership::Membership;
 use crate::state::notification::{GroupTimer, LogKey, Notification};
 use crate::state::roster::Roster;
 use crate::state::route_labels::{RouteLabels, group_key};
 use crate::state::tables::Tables;
-use crate::state::timetable::Timetable;
 use amr_config::stated::RuleMatch;
 use amr_config::{Config, RouteGroup};
 use amr_events::posts::SilenceId;
 use amr_labels::{Labels, Listing, Shared};
-use amr_rules::{Alert, LogEntry, Silence, needs_update};
+use amr_rules::{Alert, LogEntry, Silence, merge, needs_update};
 use amr_tables::{Journal, Keyed};
 use amr_time::{Moment, Span};
 use std::alloc::{AllocError, Global};
@@ -83,7 +85,7 @@ impl Store {
             alloc,
             tables: Tables {
                 moment: Moment::START,
-                timetable: Timetable::new(alloc),
+                alerts: AlertTable::new(alloc),
                 silences: SilenceTable::new(alloc),
                 roster: Roster::new(alloc, config),
                 log: Keyed::new(alloc),
@@ -211,7 +213,7 @@ impl Store {
     pub fn alerts(&self) -> &AlertTable
         ensures { map_of label_set_cmp result.now ≡ self.now.state.alerts }
     {
-        self.tables.timetable.alerts()
+        &self.tables.alerts
     }
 
     /// Returns the silences, by id.
@@ -238,7 +240,7 @@ impl Store {
     pub fn cache_silences(&mut self, at: Moment, label_sets: &[Labels]) -> Result<(), AllocError>
         ensures same { self.new ≡ self.old }
     {
-        let arrived = self.tables.timetable.alerts().arrived();
+        let arrived = self.tables.alerts.arrived();
         self.tables.silences.cache(at, label_sets, arrived);
         Ok(())
     }
@@ -250,8 +252,9 @@ impl Store {
         ensures same { self.new ≡ self.old }
     {
         self.tables
-            .timetable
-            .cache_sources(self.tables.roster.config().rules(), matched)
+            .alerts
+            .cache_sources(self.tables.roster.config().rules(), matched);
+        Ok(())
     }
 
     /// Returns the members of all groups, by route and labels.
@@ -285,7 +288,7 @@ impl Store {
     pub fn timers(&self) -> &Keyed<RouteLabels, GroupTimer>
         ensures { map_of route_labels_cmp result.now ≡ self.now.state.timers }
     {
-        self.tables.timetable.timers()
+        self.tables.roster.timers()
     }
 
     /// Returns the notification log.
@@ -301,7 +304,7 @@ impl Store {
         ensures due { IfOk result (λ due. due ≡ next_due at self.now.state) }
         ensures within { IfOk result (λ due. IfSome due (λ d. d.moment ≤ at)) }
     {
-        self.tables.timetable.next_due(at)
+        self.tables.next_due(at)
     }
 
     /// Returns all notifications so far, in order.
@@ -341,9 +344,28 @@ impl Store {
         ensures kept { before_open_record self.new ≡ before_open_record self.old }
         ensures grown { GrownBy 1 self.old self.new }
     {
-        let number = make_room(&mut self.tables, &mut self.journal, &change)?;
+        let number = make_room(&mut self.tables, &mut self.journal, None, &change)?;
         enter(&mut self.tables, &mut self.journal, number, change);
         Ok(())
+    }
+
+    /// Stores an alert, merged with the stored one of the same labels if there is one, and returns
+    /// what it stored. It looks for the labels once.
+    pub fn put_alert(&mut self, labels: &Labels, alert: Alert) -> Result<Alert, AllocError>
+        ensures stored { IfOk result (λ stored. stored ≡ alert_to_store self.old.state.moment
+            (map.get self.old.state.alerts labels.now) alert) }
+        ensures ok { IfOk result (λ stored. self.new.state ≡ record self.old.state
+            { alerts = map.insert self.old.state.alerts labels.now stored }) }
+        ensures kept { before_open_record self.new ≡ before_open_record self.old }
+        ensures grown { GrownBy 1 self.old self.new }
+    {
+        let alerts = self.tables.alerts.by_number();
+        let (number, former) = alerts.look_up_number(labels);
+        let stored = merged(self.tables.moment, former, alert);
+        let change = Change::OfAlert(labels.clone()?, Some(stored.clone()?));
+        let number = make_room(&mut self.tables, &mut self.journal, number, &change)?;
+        enter(&mut self.tables, &mut self.journal, number, change);
+        Ok(stored)
     }
 
     /// Sets the next flush of a group and marks the group as flushed. Does nothing if there is no
@@ -355,7 +377,7 @@ impl Store {
         ensures kept { before_open_record self.new ≡ before_open_record self.old }
         ensures grown { GrownBy 1 self.old self.new }
     {
-        let (number, former) = self.tables.timetable.look_up_timer(group);
+        let (number, former) = self.tables.roster.look_up_timer(group);
         let (Some(number), Some(former)) = (number, former.copied()) else {
             return Ok(());
         };
@@ -400,11 +422,7 @@ impl Store {
             return Ok(false);
         }
         let change = Change::OfLog(key.clone()?, Some(entry));
-        let Some(number) = number else {
-            self.change(change)?;
-            return Ok(true);
-        };
-        self.journal.reserve_entry()?;
+        let number = make_room(&mut self.tables, &mut self.journal, number, &change)?;
         enter(&mut self.tables, &mut self.journal, number, change);
         Ok(true)
     }
@@ -490,7 +508,7 @@ impl Store {
         ensures kept { before_open_record self.new ≡ before_open_record self.old }
         ensures grown { GrownBy (len self.old.state.timers) self.old self.new }
     {
-        let groups = keys_of(self.alloc, self.tables.timetable.timers())?;
+        let groups = keys_of(self.alloc, self.tables.roster.timers())?;
         for group in &groups {
             self.change(Change::OfTimer(group.clone()?, None))?;
         }
@@ -514,43 +532,14 @@ impl Store {
     }
 }
 
-/// Returns the number of a change's place. Makes the place if there is none, and room for an entry
-/// in the open record.
-#[inline(always)]
-fn make_room(
-    tables: &mut Tables,
-    journal: &mut Journal<Change>,
-    change: &Change,
-) -> Result<usize, AllocError>
-    requires { FitsOne (shown_by tables.old) change.now }
-    ensures number { IfOk result (λ number. IsPlaceOf tables.new change.now number) }
-    ensures room { OnOk result (0 < journal.new.entry_room) }
-    ensures values { SameValues tables.old tables.new }
-    ensures places { MorePlaces tables.old tables.new }
-    ensures marks { (place : Change) → NoNewMark tables.old tables.new place }
-    ensures closed { journal.new.closed ≡ journal.old.closed }
-    ensures current { journal.new.current ≡ journal.old.current }
-    ensures records { journal.new.record_room ≡ journal.old.record_room }
+/// Returns what is stored of a new alert: itself, or what it makes with the stored one.
+#[tactic(auto, unfolding(amr_rules::specs::Alerts::alert_to_store))]
+fn merged(now: Moment, stored: Option<&Alert>, alert: Alert) -> Alert
+    ensures { result ≡ alert_to_store now (option_copied stored.entry) alert }
 {
-    let number = tables.place(change)?;
-    journal.reserve_entry()?;
-    Ok(number)
-}
-
-/// Makes a change, given the number of its place, and enters the one that leads back into the open
-/// record, unless the place is marked. It takes no memory.
-#[inline(always)]
-fn enter(tables: &mut Tables, journal: &mut Journal<Change>, number: usize, mut change: Change)
-    requires room { 0 < journal.old.entry_room }
-    requires number { IsPlaceOf tables.old change number }
-    requires fits { FitsOne (shown_by tables.old) change }
-    ensures state { shown_by tables.new ≡ after_change (shown_by tables.old) change }
-    ensures places { MorePlaces tables.old tables.new }
-    ensures entered { IsEntered tables.old journal.old change tables.new journal.new }
-{
-    let was_marked = tables.displace(number, &mut change);
-    if !was_marked {
-        journal.push(change);
+    match stored {
+        Some(stored) => merge(now, stored, alert),
+        None => alert,
     }
 }
 

@@ -3,16 +3,20 @@
 //! `displace` is the one way to change it otherwise.
 ghost use Rattle.std.specs.Prelude.{◌≡◌, Some, IsTrue, IfOk, not};
 ghost use Rattle.amr_tables.specs.Numbered.{map_of, has_place, number_of, KeepsPlaces, SameEntered};
-ghost use Rattle.amr_engine.specs.State.State.{log_key_cmp};
+ghost use Rattle.amr_labels.specs.Labels.{label_set_cmp};
+ghost use Rattle.amr_engine.specs.State.State.{log_key_cmp, route_labels_cmp};
+ghost use Rattle.amr_engine.specs.State.Dues.{dues_of, due_by, least_due};
 ghost use Rattle.amr_engine.specs.State.Records.{after_change, change_back};
 ghost use Rattle.amr_engine.specs.State.Fitting.{FitsOne, is_config};
 ghost use Rattle.amr_engine.specs.State.Stored.{shown_by, SameValues, MorePlaces, IsSound, IsPlaceOf, IsUnmarked, NoNewMark, NewMarkAt, is_marked_at};
 
 use crate::indexes::SilenceTable;
+use crate::state::alert_table::AlertTable;
 use crate::state::change::Change;
+use crate::state::due::Due;
 use crate::state::notification::{LogKey, Notification};
+use crate::state::pending::{earlier, if_due};
 use crate::state::roster::Roster;
-use crate::state::timetable::Timetable;
 use amr_labels::Shared;
 use amr_rules::LogEntry;
 use amr_tables::{Key, Keyed};
@@ -26,7 +30,7 @@ use std::mem;
 #[derive(Drop)]
 pub(crate) struct Tables {
     pub(crate) moment: Moment,
-    pub(crate) timetable: Timetable,
+    pub(crate) alerts: AlertTable,
     pub(crate) silences: SilenceTable,
     pub(crate) roster: Roster,
     pub(crate) log: Keyed<LogKey, LogEntry>,
@@ -46,10 +50,10 @@ impl Tables {
         ensures marks { (place : Change) → NoNewMark self.old self.new place }
     {
         match change {
-            Change::OfAlert(labels, _) => self.timetable.place_alert(labels),
+            Change::OfAlert(labels, _) => self.alerts.place(labels),
             Change::OfSilence(id, _) => self.silences.place(id),
             Change::OfMember(member, _) => self.roster.place_member(member),
-            Change::OfTimer(group, _) => self.timetable.place_timer(group),
+            Change::OfTimer(group, _) => self.roster.place_group(group),
             Change::OfLog(key, _) => place_log(&mut self.log, key),
             Change::OfMoment(_) | Change::OfConfig(_) | Change::OfNotes(_) => Ok(0),
         }
@@ -61,10 +65,10 @@ impl Tables {
         ensures { IsPlaceOf self.now change.now result }
     {
         match change {
-            Change::OfAlert(labels, _) => number_in(self.timetable.alerts().by_number(), labels),
+            Change::OfAlert(labels, _) => number_in(self.alerts.by_number(), labels),
             Change::OfSilence(id, _) => number_in(self.silences.silences(), id),
             Change::OfMember(member, _) => number_in(self.roster.placements(), &member.member),
-            Change::OfTimer(group, _) => number_in(self.timetable.timers(), group),
+            Change::OfTimer(group, _) => number_in(self.roster.timers(), group),
             Change::OfLog(key, _) => number_in(&self.log, key),
             Change::OfMoment(_) | Change::OfConfig(_) | Change::OfNotes(_) => 0,
         }
@@ -94,10 +98,10 @@ impl Tables {
                 self.roster.swap_config(config);
                 false
             }
-            Change::OfAlert(_, alert) => self.timetable.swap_alert(number, alert),
+            Change::OfAlert(_, alert) => self.alerts.swap_at(number, alert),
             Change::OfSilence(id, silence) => self.silences.swap_at(id, number, silence),
             Change::OfMember(member, alert) => self.roster.swap_member(number, member, alert),
-            Change::OfTimer(_, timer) => self.timetable.swap_timer(number, timer),
+            Change::OfTimer(_, timer) => self.roster.swap_timer(number, timer),
             Change::OfLog(_, entry) => self.log.swap_at(number, entry),
             Change::OfNotes(count) => {
                 let was = self.notes.len();
@@ -108,6 +112,18 @@ impl Tables {
         }
     }
 
+    /// Returns the first pending timer at or before a moment, or `None` if no timer is pending then.
+    pub(crate) fn next_due(&self, at: Moment) -> Result<Option<Due>, AllocError>
+        ensures { IfOk result (λ due. due ≡ due_by at (least_due
+            (dues_of (map_of label_set_cmp self.now.alerts)
+            (map_of route_labels_cmp self.now.roster.timers)))) }
+    {
+        let alert = self.alerts.first_removal();
+        let removal = self.roster.first_removal();
+        let flush = self.roster.first_flush();
+        if_due(at, earlier(alert, earlier(removal, flush)))
+    }
+
     /// Clears the marks of all places, so that the open record takes their next change again. It
     /// takes no memory.
     pub(crate) fn clear_entered(&mut self)
@@ -115,7 +131,7 @@ impl Tables {
         ensures places { MorePlaces self.old self.new }
         ensures marks { IsUnmarked self.new }
     {
-        self.timetable.clear_entered();
+        self.alerts.clear_entered();
         self.silences.clear_entered();
         self.roster.clear_entered();
         self.log.clear_entered();

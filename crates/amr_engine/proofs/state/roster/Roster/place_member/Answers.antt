@@ -10,11 +10,11 @@ on_ok (Ok x) P p = p
 on_ok (Err e) P p = tt
 
 pub returns-in-Some-clause-known : goal.returns-in-Some-clause-known
-returns-in-Some-clause-known c = number_place c.place_group.new.self.groups c.args.member.now.group c.in_ok-place_group.field-0 c.in_ok-place_group.ensures.number
+returns-in-Some-clause-known c = number_place c.place_group.new.self.timers c.args.member.now.group c.in_ok-place_group.field-0 c.in_ok-place_group.ensures.number
 
 pub returns-in-None-clause-known : goal.returns-in-None-clause-known
 returns-in-None-clause-known c =
     let group = c.args.member.now.group in
     on_ok c.add_member.result _
-    (subst (λ t. IsTrue (has_place route_labels_cmp t group)) (sym c.add_member.ensures.groups)
-    (number_place c.place_group.new.self.groups group c.in_ok-place_group.field-0 c.in_ok-place_group.ensures.number))
+    (subst (λ t. IsTrue (has_place route_labels_cmp t group)) (sym c.add_member.ensures.timers)
+    (number_place c.place_group.new.self.timers group c.in_ok-place_group.field-0 c.in_ok-place_group.ensures.number))

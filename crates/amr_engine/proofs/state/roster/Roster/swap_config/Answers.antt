@@ -8,4 +8,4 @@ use Rattle.amr_engine.proofs.state.roster.Roster.swap_config.Goals as goal
 pub invariant_of-self : goal.invariant_of-self
 invariant_of-self c =
     let r = c.self.inside in
-    grouped_again r.config r.placements r.groups r.members c.self.invariant c.swap.new.used (ap (λ (r : Rostered). map_of route_labels_cmp r.placements) c.self.view_is ∙ c.requires)
+    (grouped_again r.config r.placements r.timers r.members c.self.invariant.0 c.swap.new.used (ap (λ (r : Rostered). map_of route_labels_cmp r.placements) c.self.view_is ∙ c.requires), c.self.invariant.1)

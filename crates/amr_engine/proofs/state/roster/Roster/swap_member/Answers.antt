@@ -30,14 +30,14 @@ swap_at-was_entered-requires c =
 pub set-requires-clause-room : goal.set-requires-clause-room
 set-requires-clause-room c =
     let key = member_on_route c.args.member.now in
-    c.self.invariant.room key c.args.number (ap (λ (t : Rostered). number_of route_labels_cmp t.placements key) c.self.view_is ∙ c.requires.place)
+    c.self.invariant.0.room key c.args.number (ap (λ (t : Rostered). number_of route_labels_cmp t.placements key) c.self.view_is ∙ c.requires.place)
 
 pub set-requires-clause-group : goal.set-requires-clause-group
 set-requires-clause-group c =
     let r = c.self.inside in
-    let known = place_number r.groups c.args.member.now.group (subst (λ (t : Rostered). IsTrue (has_place route_labels_cmp t.groups c.args.member.now.group)) (sym c.self.view_is) c.requires.known) in
-    subst (λ (o : Option ℕ). IfSome o (λ g. g < r.members.count)) (sym (c.group_if_member-in_group.ensures ∙ in_group (number_of route_labels_cmp r.groups c.args.member.now.group) known.0 c.args.alert.now known.1))
-    (within_if c.args.alert.now known.0 r.members.count (c.self.invariant.group_room c.args.member.now.group known.0 known.1))
+    let known = place_number r.timers c.args.member.now.group (subst (λ (t : Rostered). IsTrue (has_place route_labels_cmp t.timers c.args.member.now.group)) (sym c.self.view_is) c.requires.known) in
+    subst (λ (o : Option ℕ). IfSome o (λ g. g < r.members.count)) (sym (c.group_if_member-in_group.ensures ∙ in_group (number_of route_labels_cmp r.timers c.args.member.now.group) known.0 c.args.alert.now known.1))
+    (within_if c.args.alert.now known.0 r.members.count (c.self.invariant.0.group_room c.args.member.now.group known.0 known.1))
 
 alike : (a b : Bool) → beq a b ≡ true → a ≡ b
 alike true true e = refl
@@ -56,10 +56,12 @@ invariant_of-self c =
     let n = c.args.number in
     let number : number_of route_labels_cmp r.placements key ≡ Some n = ap (λ (t : Rostered). number_of route_labels_cmp t.placements key) c.self.view_is ∙ c.requires.place in
     let group : group_key r.config key ≡ c.args.member.now.group = sym (c.requires.group ∙ ap (λ (t : Rostered). group_key t.config key) (sym c.self.view_is)) in
-    let known = place_number r.groups c.args.member.now.group (subst (λ (t : Rostered). IsTrue (has_place route_labels_cmp t.groups c.args.member.now.group)) (sym c.self.view_is) c.requires.known) in
-    grouped_stays r.config r.placements r.groups r.members c.self.invariant c.swap_at.new.self key n known.0 c.args.alert.now number
-    (ap (number_of route_labels_cmp r.groups) group ∙ known.1) c.swap_at.ensures.keys (c.swap_at.ensures.shown key number)
-    (sym (ap is_some (c.at.ensures.key key number)) ∙ copied c.at.result ∙ sym c.is_some.ensures ∙ alike c.is_some.result c.is_some-2.result c.if-is_some.true ∙ c.is_some-2.ensures)
+    let known = place_number r.timers c.args.member.now.group (subst (λ (t : Rostered). IsTrue (has_place route_labels_cmp t.timers c.args.member.now.group)) (sym c.self.view_is) c.requires.known) in (
+      grouped_stays r.config r.placements r.timers r.members c.self.invariant.0 c.swap_at.new.self key n known.0 c.args.alert.now number
+          (ap (number_of route_labels_cmp r.timers) group ∙ known.1) c.swap_at.ensures.keys (c.swap_at.ensures.shown key number)
+          (sym (ap is_some (c.at.ensures.key key number)) ∙ copied c.at.result ∙ sym c.is_some.ensures ∙ alike c.is_some.result c.is_some-2.result c.if-is_some.true ∙ c.is_some-2.ensures),
+      c.self.invariant.1,
+    )
 
 pub invariant_of-self-2 : goal.invariant_of-self-2
 invariant_of-self-2 c =
@@ -68,10 +70,12 @@ invariant_of-self-2 c =
     let n = c.args.number in
     let number : number_of route_labels_cmp r.placements key ≡ Some n = ap (λ (t : Rostered). number_of route_labels_cmp t.placements key) c.self.view_is ∙ c.requires.place in
     let group : group_key r.config key ≡ c.args.member.now.group = sym (c.requires.group ∙ ap (λ (t : Rostered). group_key t.config key) (sym c.self.view_is)) in
-    let known = place_number r.groups c.args.member.now.group (subst (λ (t : Rostered). IsTrue (has_place route_labels_cmp t.groups c.args.member.now.group)) (sym c.self.view_is) c.requires.known) in
-    grouped_set r.config r.placements r.groups r.members c.self.invariant c.swap_at-was_entered.new.self c.set.new.self key n known.0 c.args.alert.now number
-    (ap (number_of route_labels_cmp r.groups) group ∙ known.1) c.swap_at-was_entered.ensures.keys (c.swap_at-was_entered.ensures.shown key number)
-    (c.set.ensures.groups ∙ ap (slice_set r.members.groups n) (c.group_if_member-in_group.ensures ∙ in_group (number_of route_labels_cmp r.groups c.args.member.now.group) known.0 c.args.alert.now known.1)) c.set.ensures.count
+    let known = place_number r.timers c.args.member.now.group (subst (λ (t : Rostered). IsTrue (has_place route_labels_cmp t.timers c.args.member.now.group)) (sym c.self.view_is) c.requires.known) in (
+      grouped_set r.config r.placements r.timers r.members c.self.invariant.0 c.swap_at-was_entered.new.self c.set.new.self key n known.0 c.args.alert.now number
+          (ap (number_of route_labels_cmp r.timers) group ∙ known.1) c.swap_at-was_entered.ensures.keys (c.swap_at-was_entered.ensures.shown key number)
+          (c.set.ensures.groups ∙ ap (slice_set r.members.groups n) (c.group_if_member-in_group.ensures ∙ in_group (number_of route_labels_cmp r.timers c.args.member.now.group) known.0 c.args.alert.now known.1)) c.set.ensures.count,
+      c.self.invariant.1,
+    )
 
 pub returns-clause-former : goal.returns-clause-former
 returns-clause-former c = λ key at.

@@ -6,8 +6,8 @@ use Rattle.amr_engine.specs.declared.state.store.Store.TheInside.{Inside}
 use Rattle.amr_engine.proofs.StateLemmas.Soundness.{fits_one, kept_placed, kept_changed, undone_placed, undone_changed, same_state}
 use Rattle.amr_engine.proofs.state.store.Store.change.Goals as goal
 
-pub make_room-requires : goal.make_room-requires
-make_room-requires c =
+pub make_room-requires-clause-fits : goal.make_room-requires-clause-fits
+make_room-requires-clause-fits c =
     let t = c.self.inside.tables in
     fits_one (shown_by t) c.args.change (subst (λ s. IsAllowed s c.args.change) (sym (ap (λ (k : Kept). k.state) c.self.view_is)) c.requires)
 

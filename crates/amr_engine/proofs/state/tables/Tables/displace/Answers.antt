@@ -13,8 +13,8 @@ use Rattle.amr_engine.specs.State.Fitting.{is_config}
 use Rattle.amr_engine.specs.State.Stored.{shown_by, IsPlaceOf, is_marked_at}
 use Rattle.amr_engine.proofs.state.tables.Tables.displace.Goals as goal
 
-pub swap_alert-requires : goal.swap_alert-requires
-swap_alert-requires c = (c.in-OfAlert.field-0, subst (λ e. IsPlaceOf c.args.self.now e c.args.number) c.in-OfAlert.is c.requires.number)
+pub swap_at-requires : goal.swap_at-requires
+swap_at-requires c = (c.in-OfAlert.field-0, subst (λ e. IsPlaceOf c.args.self.now e c.args.number) c.in-OfAlert.is c.requires.number)
 
 pub swap_timer-requires : goal.swap_timer-requires
 swap_timer-requires c = (c.in-OfTimer.field-0, subst (λ e. IsPlaceOf c.args.self.now e c.args.number) c.in-OfTimer.is c.requires.number)
@@ -28,9 +28,9 @@ marked_now R o old changed n key enters at = enters key at key ∙ ap (λ r. is_
 
 pub returns-in-OfAlert-clause-marked : goal.returns-in-OfAlert-clause-marked
 returns-in-OfAlert-clause-marked c =
-    let after : Tables = record c.args.self.now { timetable = c.swap_alert.new.self } in
+    let after : Tables = record c.args.self.now { alerts = c.swap_at.new.self } in
     subst (λ e. is_marked_at after e ≡ not (is_config e)) (sym c.in-OfAlert.is)
-    (marked_now label_set_cmp label_set_cmp_total c.args.self.now.timetable.alerts c.swap_alert.new.self.alerts c.args.number c.in-OfAlert.field-0 c.swap_alert.ensures.entered
+    (marked_now label_set_cmp label_set_cmp_total c.args.self.now.alerts c.swap_at.new.self c.args.number c.in-OfAlert.field-0 c.swap_at.ensures.entered
     (subst (λ e. IsPlaceOf c.args.self.now e c.args.number) c.in-OfAlert.is c.requires.number))
 
 pub returns-in-OfMember-clause-marked : goal.returns-in-OfMember-clause-marked
@@ -42,9 +42,9 @@ returns-in-OfMember-clause-marked c =
 
 pub returns-in-OfTimer-clause-marked : goal.returns-in-OfTimer-clause-marked
 returns-in-OfTimer-clause-marked c =
-    let after : Tables = record c.args.self.now { timetable = c.swap_timer.new.self } in
+    let after : Tables = record c.args.self.now { roster = c.swap_timer.new.self } in
     subst (λ e. is_marked_at after e ≡ not (is_config e)) (sym c.in-OfTimer.is)
-    (marked_now route_labels_cmp route_labels_cmp_total c.args.self.now.timetable.timers c.swap_timer.new.self.timers c.args.number c.in-OfTimer.field-0 c.swap_timer.ensures.entered
+    (marked_now route_labels_cmp route_labels_cmp_total c.args.self.now.roster.timers c.swap_timer.new.self.timers c.args.number c.in-OfTimer.field-0 c.swap_timer.ensures.entered
     (subst (λ e. IsPlaceOf c.args.self.now e c.args.number) c.in-OfTimer.is c.requires.number))
 
 pub returns-in-OfLog-clause-marked : goal.returns-in-OfLog-clause-marked
@@ -78,7 +78,6 @@ returns-in-OfLog-clause-places c = record {
   alerts = λ k h. h;
   silences = λ k h. h;
   placements = λ k h. h;
-  groups = λ k h. h;
   timers = λ k h. h;
   log = λ k h. subst IsTrue (sym (c.swap_at-in-OfLog.ensures.places k)) h;
 }

@@ -1,0 +1,57 @@
+use Rattle.std.proofs.Common.{◌≡◌, ◌∷◌, ◌++◌, [], None, refl, sym, ap, subst, ◌∙◌}
+use Rattle.std.specs.Prelude.{Result, Ok, Err, OnOk}
+use Rattle.amr_labels.specs.Labels.{LabelSet, label_set_cmp}
+use Rattle.amr_rules.specs.declared.alert.Alert.{Alert}
+use Rattle.amr_tables.specs.Numbered.{Numbered, number_of, next_number, GetsNumber}
+use Rattle.amr_engine.specs.Indexes.RuleSources.{AllArrived}
+use Rattle.amr_engine.specs.State.Timed.{AreRemoved}
+use Rattle.amr_engine.proofs.IndexesLemmas.Arriving.{arrived_more}
+use Rattle.amr_engine.proofs.StateLemmas.Scheduling.{alerts_same, alert_placed, unplaced}
+use Rattle.amr_engine.proofs.state.alert_table.AlertTable.add.Goals as goal
+
+on_ok : {T E : Type 0} (r : Result T E) (P Q : Type 0) → (P → Q) → OnOk r P → OnOk r Q
+on_ok (Ok x) P Q f p = f p
+on_ok (Err e) P Q f p = p
+
+pub invariant_of-self : goal.invariant_of-self
+invariant_of-self c =
+    let t = c.self.inside in
+    (alerts_same t.alerts t.removals c.self.invariant.0 t.alerts refl refl c.make_room.new.moments c.make_room.ensures.same c.make_room.ensures.more c.make_room.ensures.held c.make_room.ensures.kept, c.self.invariant.1)
+
+pub invariant_of-self-in_err-clone : goal.invariant_of-self-in_err-clone
+invariant_of-self-in_err-clone c =
+    let t = c.self.inside in
+    (alerts_same t.alerts t.removals c.self.invariant.0 t.alerts refl refl c.make_room.new.moments c.make_room.ensures.same c.make_room.ensures.more c.make_room.ensures.held c.make_room.ensures.kept, c.self.invariant.1)
+
+pub invariant_of-self-in_err-add : goal.invariant_of-self-in_err-add
+invariant_of-self-in_err-add c =
+    let t = c.self.inside in (
+      alerts_same t.alerts t.removals c.self.invariant.0 t.alerts refl refl c.make_room.new.moments c.make_room.ensures.same c.make_room.ensures.more c.make_room.ensures.held c.make_room.ensures.kept,
+      subst (AllArrived t.alerts) (sym c.in_err-add.ensures.err) c.self.invariant.1,
+    )
+
+pub invariant_of-self-in_err-number : goal.invariant_of-self-in_err-number
+invariant_of-self-in_err-number c =
+    let t = c.self.inside in
+    let u = c.make_place.new.self in
+    let copy = c.in_ok-copy.copy in
+    let none : number_of label_set_cmp t.alerts copy ≡ None = ap (number_of label_set_cmp t.alerts) c.in_ok-copy.ensures.cases ∙ ap (λ (v : Numbered LabelSet Alert). number_of label_set_cmp v c.args.labels.now) c.self.view_is ∙ c.requires in
+    let gets = on_ok c.make_place.result _ (GetsNumber label_set_cmp t.alerts u copy (next_number t.alerts)) (λ gets. gets (unplaced label_set_cmp t.alerts copy none)) c.make_place.ensures.number in
+    let added : c.add.new.self ≡ t.sources ++ copy ∷ [] = c.in_ok-add.ensures.ok ∙ ap (λ labels. t.sources ++ labels ∷ []) (c.in_ok-clone.ensures.cases ∙ sym c.in_ok-copy.ensures.cases) in (
+      alerts_same t.alerts t.removals c.self.invariant.0 u c.in_err-number.ensures.kept c.make_place.ensures.shown c.make_room.new.moments c.make_room.ensures.same c.make_room.ensures.more c.make_room.ensures.held c.make_room.ensures.kept,
+      subst (AllArrived u) (sym added) (arrived_more c.make_place.result t.alerts u t.sources copy (next_number t.alerts) gets c.make_place.ensures.err c.self.invariant.1),
+    )
+
+pub invariant_of-self-2 : goal.invariant_of-self-2
+invariant_of-self-2 c =
+    let t = c.self.inside in
+    let u = c.make_place.new.self in
+    let copy = c.in_ok-copy.copy in
+    let r = c.make_room.new.moments in
+    let none : number_of label_set_cmp t.alerts copy ≡ None = ap (number_of label_set_cmp t.alerts) c.in_ok-copy.ensures.cases ∙ ap (λ (v : Numbered LabelSet Alert). number_of label_set_cmp v c.args.labels.now) c.self.view_is ∙ c.requires in
+    let gets = on_ok c.make_place.result _ (GetsNumber label_set_cmp t.alerts u copy (next_number t.alerts)) (λ gets. gets (unplaced label_set_cmp t.alerts copy none)) c.make_place.ensures.number in
+    let added : c.add.new.self ≡ t.sources ++ copy ∷ [] = c.in_ok-add.ensures.ok ∙ ap (λ labels. t.sources ++ labels ∷ []) (c.in_ok-clone.ensures.cases ∙ sym c.in_ok-copy.ensures.cases) in
+    let roomy : AreRemoved t.alerts r = alerts_same t.alerts t.removals c.self.invariant.0 t.alerts refl refl r c.make_room.ensures.same c.make_room.ensures.more c.make_room.ensures.held c.make_room.ensures.kept in (
+      alert_placed t.alerts r roomy u copy c.make_room.ensures.numbering c.make_place.ensures.numbering none (c.in_ok-number.ensures.number (unplaced label_set_cmp t.alerts copy none)) c.make_place.ensures.shown c.in_ok-make_room.ensures.room,
+      subst (AllArrived u) (sym added) (arrived_more c.make_place.result t.alerts u t.sources copy (next_number t.alerts) gets c.make_place.ensures.err c.self.invariant.1),
+    )

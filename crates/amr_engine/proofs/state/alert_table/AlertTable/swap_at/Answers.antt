@@ -1,0 +1,56 @@
+use Rattle.std.proofs.Common.{◌≡◌, ◌||◌, Some, ap, ◌∙◌}
+use Rattle.std.specs.Prelude.{slice_set}
+use Rattle.std.specs.Ordering.{eq_by_cmp}
+use Rattle.amr_labels.specs.Labels.{LabelSet, label_set_cmp}
+use Rattle.amr_labels.specs.Map as map
+use Rattle.amr_rules.specs.declared.alert.Alert.{Alert}
+use Rattle.amr_tables.specs.Numbered.{Numbered, map_of, number_of, has_place, is_entered}
+use Rattle.amr_engine.proofs.IndexesLemmas.Arriving.{arrived_same}
+use Rattle.amr_engine.proofs.StateLemmas.Scheduling.{alert_set, ranked}
+use Rattle.amr_engine.proofs.state.alert_table.AlertTable.swap_at.Goals as goal
+
+pub swap_at-was_entered-requires : goal.swap_at-was_entered-requires
+swap_at-was_entered-requires c = (c.requires.0, ap (λ (v : Numbered LabelSet Alert). number_of label_set_cmp v c.requires.0) c.self.view_is ∙ c.requires.1)
+
+pub set-requires-clause-room : goal.set-requires-clause-room
+set-requires-clause-room c = c.self.invariant.0.removed.room c.requires.0 c.args.number (ap (λ (v : Numbered LabelSet Alert). number_of label_set_cmp v c.requires.0) c.self.view_is ∙ c.requires.1)
+
+pub set-requires-clause-kept : goal.set-requires-clause-kept
+set-requires-clause-kept c =
+    let t = c.self.inside in
+    ranked label_set_cmp t.alerts c.swap_at-was_entered.new.self c.swap_at-was_entered.ensures.keys t.removals c.self.invariant.0.removed.ordered
+
+pub invariant_of-self : goal.invariant_of-self
+invariant_of-self c =
+    let t = c.self.inside in
+    let labels = c.requires.0 in
+    let n = c.args.number in
+    let u = c.swap_at-was_entered.new.self in
+    let number : number_of label_set_cmp t.alerts labels ≡ Some n = ap (λ (v : Numbered LabelSet Alert). number_of label_set_cmp v labels) c.self.view_is ∙ c.requires.1 in (
+      alert_set t.alerts t.removals c.self.invariant.0 u c.set.new.self labels n c.args.alert.now number c.swap_at-was_entered.ensures.keys (c.swap_at-was_entered.ensures.shown labels number)
+          (c.set.ensures.moments ∙ ap (slice_set t.removals.moments n) c.alert_moment-moment.ensures) c.set.ensures.held c.set.ensures.kept,
+      arrived_same t.alerts u t.sources c.self.invariant.1 c.swap_at-was_entered.ensures.places,
+    )
+
+pub returns-clause-former : goal.returns-clause-former
+returns-clause-former c = λ labels at.
+    let number = ap (λ (v : Numbered LabelSet Alert). number_of label_set_cmp v labels) c.self.view_is ∙ at in
+    c.swap_at-was_entered.ensures.former labels number ∙ ap (λ (v : Numbered LabelSet Alert). map.get (map_of label_set_cmp v) labels) c.self.view_is
+
+pub returns-clause-was_entered : goal.returns-clause-was_entered
+returns-clause-was_entered c = λ labels at.
+    let number = ap (λ (v : Numbered LabelSet Alert). number_of label_set_cmp v labels) c.self.view_is ∙ at in
+    c.swap_at-was_entered.ensures.was_entered labels number ∙ ap (λ (v : Numbered LabelSet Alert). is_entered label_set_cmp v labels) c.self.view_is
+
+pub returns-clause-shown : goal.returns-clause-shown
+returns-clause-shown c = λ labels at.
+    let number = ap (λ (v : Numbered LabelSet Alert). number_of label_set_cmp v labels) c.self.view_is ∙ at in
+    c.swap_at-was_entered.ensures.shown labels number ∙ ap (λ (v : Numbered LabelSet Alert). map.set (map_of label_set_cmp v) labels c.args.alert.now) c.self.view_is
+
+pub returns-clause-places : goal.returns-clause-places
+returns-clause-places c = λ other. c.swap_at-was_entered.ensures.places other ∙ ap (λ (v : Numbered LabelSet Alert). has_place label_set_cmp v other) c.self.view_is
+
+pub returns-clause-entered : goal.returns-clause-entered
+returns-clause-entered c = λ labels at other.
+    let number = ap (λ (v : Numbered LabelSet Alert). number_of label_set_cmp v labels) c.self.view_is ∙ at in
+    c.swap_at-was_entered.ensures.entered labels number other ∙ ap (λ (v : Numbered LabelSet Alert). eq_by_cmp label_set_cmp other labels || is_entered label_set_cmp v other) c.self.view_is

@@ -1,0 +1,13 @@
+use Rattle.std.proofs.Common.{subst}
+use Rattle.std.specs.Prelude.{option_map}
+use Rattle.amr_tables.specs.Numbered.{map_of}
+use Rattle.amr_engine.specs.declared.state.due.Kind.TheVariants.{GroupFlush}
+use Rattle.amr_engine.specs.State.State.{route_labels_cmp}
+use Rattle.amr_engine.specs.State.Dues.{dues_of}
+use Rattle.amr_engine.specs.State.Timed.{due_of, IsFirstOfKind}
+use Rattle.amr_engine.specs.State.Rostered.{Rostered}
+use Rattle.amr_engine.proofs.state.roster.Roster.first_flush.Goals as goal
+
+pub returns : goal.returns
+returns c = λ alerts.
+    subst (λ (v : Rostered). IsFirstOfKind GroupFlush (dues_of alerts (map_of route_labels_cmp v.timers)) (option_map due_of c.first_group.result)) c.self.view_is (c.first_group.ensures alerts)

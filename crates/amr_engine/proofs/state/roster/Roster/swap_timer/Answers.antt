@@ -1,0 +1,64 @@
+use Rattle.std.proofs.Common.{◌≡◌, ◌||◌, Some, ap, ◌∙◌}
+use Rattle.std.specs.Prelude.{slice_set}
+use Rattle.std.specs.Ordering.{eq_by_cmp}
+use Rattle.amr_labels.specs.Map as map
+use Rattle.amr_tables.specs.Numbered.{map_of, number_of, has_place, is_entered}
+use Rattle.amr_engine.specs.State.Rostered.{Rostered}
+use Rattle.amr_engine.specs.State.State.{route_labels_cmp}
+use Rattle.amr_engine.proofs.StateLemmas.Rostering.{grouped_timed}
+use Rattle.amr_engine.proofs.StateLemmas.Scheduling.{timer_set, ranked}
+use Rattle.amr_engine.proofs.state.roster.Roster.swap_timer.Goals as goal
+
+pub swap_at-was_entered-requires : goal.swap_at-was_entered-requires
+swap_at-was_entered-requires c = (c.requires.0, ap (λ (v : Rostered). number_of route_labels_cmp v.timers c.requires.0) c.self.view_is ∙ c.requires.1)
+
+pub set-requires-clause-room : goal.set-requires-clause-room
+set-requires-clause-room c = c.self.invariant.1.flushed.room c.requires.0 c.args.number (ap (λ (v : Rostered). number_of route_labels_cmp v.timers c.requires.0) c.self.view_is ∙ c.requires.1)
+
+pub set-requires-2-clause-room : goal.set-requires-2-clause-room
+set-requires-2-clause-room c = c.self.invariant.1.removed.room c.requires.0 c.args.number (ap (λ (v : Rostered). number_of route_labels_cmp v.timers c.requires.0) c.self.view_is ∙ c.requires.1)
+
+pub set-requires-clause-kept : goal.set-requires-clause-kept
+set-requires-clause-kept c =
+    let t = c.self.inside in
+    ranked route_labels_cmp t.timers c.swap_at-was_entered.new.self c.swap_at-was_entered.ensures.keys t.flushes c.self.invariant.1.flushed.ordered
+
+pub set-requires-2-clause-kept : goal.set-requires-2-clause-kept
+set-requires-2-clause-kept c =
+    let t = c.self.inside in
+    ranked route_labels_cmp t.timers c.swap_at-was_entered.new.self c.swap_at-was_entered.ensures.keys t.removals c.self.invariant.1.removed.ordered
+
+pub invariant_of-self : goal.invariant_of-self
+invariant_of-self c =
+    let t = c.self.inside in
+    let group = c.requires.0 in
+    let n = c.args.number in
+    let number : number_of route_labels_cmp t.timers group ≡ Some n = ap (λ (v : Rostered). number_of route_labels_cmp v.timers group) c.self.view_is ∙ c.requires.1 in (
+      grouped_timed t.config t.placements t.timers t.members c.self.invariant.0 c.swap_at-was_entered.new.self group n c.args.timer.now number c.swap_at-was_entered.ensures.keys (c.swap_at-was_entered.ensures.shown group number),
+      timer_set t.timers t.removals t.flushes c.self.invariant.1 c.swap_at-was_entered.new.self c.set-2.new.self c.set.new.self group n c.args.timer.now number c.swap_at-was_entered.ensures.keys (c.swap_at-was_entered.ensures.shown group number)
+          (c.set-2.ensures.moments ∙ ap (slice_set t.removals.moments n) c.removal_moment-removal.ensures) c.set-2.ensures.held c.set-2.ensures.kept
+          (c.set.ensures.moments ∙ ap (slice_set t.flushes.moments n) c.flush_moment-flush.ensures) c.set.ensures.held c.set.ensures.kept,
+    )
+
+pub returns-clause-former : goal.returns-clause-former
+returns-clause-former c = λ group at.
+    let number = ap (λ (v : Rostered). number_of route_labels_cmp v.timers group) c.self.view_is ∙ at in
+    c.swap_at-was_entered.ensures.former group number ∙ ap (λ (v : Rostered). map.get (map_of route_labels_cmp v.timers) group) c.self.view_is
+
+pub returns-clause-was_entered : goal.returns-clause-was_entered
+returns-clause-was_entered c = λ group at.
+    let number = ap (λ (v : Rostered). number_of route_labels_cmp v.timers group) c.self.view_is ∙ at in
+    c.swap_at-was_entered.ensures.was_entered group number ∙ ap (λ (v : Rostered). is_entered route_labels_cmp v.timers group) c.self.view_is
+
+pub returns-clause-shown : goal.returns-clause-shown
+returns-clause-shown c = λ group at.
+    let number = ap (λ (v : Rostered). number_of route_labels_cmp v.timers group) c.self.view_is ∙ at in
+    c.swap_at-was_entered.ensures.shown group number ∙ ap (λ (v : Rostered). map.set (map_of route_labels_cmp v.timers) group c.args.timer.now) c.self.view_is
+
+pub returns-clause-places : goal.returns-clause-places
+returns-clause-places c = λ other. c.swap_at-was_entered.ensures.places other ∙ ap (λ (v : Rostered). has_place route_labels_cmp v.timers other) c.self.view_is
+
+pub returns-clause-entered : goal.returns-clause-entered
+returns-clause-entered c = λ group at other.
+    let number = ap (λ (v : Rostered). number_of route_labels_cmp v.timers group) c.self.view_is ∙ at in
+    c.swap_at-was_entered.ensures.entered group number other ∙ ap (λ (v : Rostered). eq_by_cmp route_labels_cmp other group || is_entered route_labels_cmp v.timers other) c.self.view_is

@@ -1,0 +1,61 @@
+//! How a change is made: its place is found or made, with room for an entry, and then the change is
+//! made and entered, which takes no memory. `Store` does one after the other.
+ghost use Rattle.std.specs.Prelude.{◌≡◌, ◌<◌, OnOk, IfOk, IfSome};
+ghost use Rattle.amr_engine.specs.State.Records.{after_change};
+ghost use Rattle.amr_engine.specs.State.Fitting.{FitsOne};
+ghost use Rattle.amr_engine.specs.State.Stored.{shown_by, IsEntered, IsPlaceOf, MorePlaces, NoNewMark, SameValues};
+
+use crate::state::change::Change;
+use crate::state::tables::Tables;
+use amr_tables::Journal;
+use std::alloc::AllocError;
+
+/// Returns the number of a change's place, which is `known` if it was looked up before. Makes the
+/// place if there is none, and room for an entry in the open record.
+#[inline(always)]
+pub(crate) fn make_room(
+    tables: &mut Tables,
+    journal: &mut Journal<Change>,
+    known: Option<usize>,
+    change: &Change,
+) -> Result<usize, AllocError>
+    requires known { IfSome known (λ number. IsPlaceOf tables.old change.now number) }
+    requires fits { FitsOne (shown_by tables.old) change.now }
+    ensures number { IfOk result (λ number. IsPlaceOf tables.new change.now number) }
+    ensures room { OnOk result (0 < journal.new.entry_room) }
+    ensures values { SameValues tables.old tables.new }
+    ensures places { MorePlaces tables.old tables.new }
+    ensures marks { (place : Change) → NoNewMark tables.old tables.new place }
+    ensures closed { journal.new.closed ≡ journal.old.closed }
+    ensures current { journal.new.current ≡ journal.old.current }
+    ensures records { journal.new.record_room ≡ journal.old.record_room }
+{
+    let number = match known {
+        Some(number) => number,
+        None => tables.place(change)?,
+    };
+    journal.reserve_entry()?;
+    Ok(number)
+}
+
+/// Makes a change, given the number of its place, and enters the one that leads back into the open
+/// record, unless the place is marked. It takes no memory.
+#[inline(always)]
+pub(crate) fn enter(
+    tables: &mut Tables,
+    journal: &mut Journal<Change>,
+    number: usize,
+    mut change: Change,
+)
+    requires room { 0 < journal.old.entry_room }
+    requires number { IsPlaceOf tables.old change number }
+    requires fits { FitsOne (shown_by tables.old) change }
+    ensures state { shown_by tables.new ≡ after_change (shown_by tables.old) change }
+    ensures places { MorePlaces tables.old tables.new }
+    ensures entered { IsEntered tables.old journal.old change tables.new journal.new }
+{
+    let was_marked = tables.displace(number, &mut change);
+    if !was_marked {
+        journal.push(change);
+    }
+}

@@ -1,0 +1,95 @@
+//! The pending timers of alerts and groups: room for their moments, which go by the numbers of what
+//! they are of, and the first of them, which borrows its labels or its group. `stored_alerts.rt` and
+//! `group_timers.rt` keep the moments; nothing is fired here.
+ghost use Rattle.std.specs.Prelude.{◌≡◌, ◌<◌, ◌≤◌, ℕ, length, option_map, OnOk, IfOk};
+ghost use Rattle.amr_tables.specs.Earliest.{moment_at, IsHeld, IsOrdered};
+ghost use Rattle.amr_tables.specs.Numbered.{next_number, rank_of, IsNumbering};
+ghost use Rattle.amr_engine.specs.State.Dues.{due_by};
+ghost use Rattle.amr_engine.specs.State.Timed.{timer_of, due_of, earlier};
+
+use crate::state::due::{Due, Timer};
+use crate::state::route_labels::RouteLabels;
+use amr_labels::Labels;
+use amr_tables::{Earliest, Key, Keyed};
+use amr_time::Moment;
+use std::alloc::AllocError;
+
+/// Makes room for the moment of the number that the next new key of a table gets.
+pub(crate) fn make_room<K: Key + Drop, V: Drop>(
+    moments: &mut Earliest,
+    table: &Keyed<K, V>,
+) -> Result<(), AllocError>
+    requires { IsOrdered (rank_of K.cmp table.now) moments.old }
+    ensures room { OnOk result (next_number table.now < length moments.new.moments) }
+    ensures more { length moments.old.moments ≤ length moments.new.moments }
+    ensures same { (n : ℕ) → moment_at moments.new n ≡ moment_at moments.old n }
+    ensures held { (n : ℕ) → IsHeld moments.new n → IsHeld moments.old n }
+    ensures kept { IsOrdered (rank_of K.cmp table.now) moments.new }
+    ensures numbering { IsNumbering K.cmp table.now }
+{
+    match table.next_number().checked_add(1) {
+        Some(count) => moments.reserve(table, count),
+        None => Err(AllocError),
+    }
+}
+
+/// What a timer does when it fires, with the labels or the group borrowed.
+#[derive(Clone, Copy)]
+pub(crate) enum TimerRef<'a> {
+    AlertRemoval(&'a Labels),
+    GroupRemoval(&'a RouteLabels),
+    GroupFlush(&'a RouteLabels),
+}
+
+impl TimerRef<'_> {
+    /// Copies the timer, with what it borrows.
+    fn to_timer(self) -> Result<Timer, AllocError>
+        ensures { IfOk result (λ timer. timer ≡ timer_of self.entry) }
+    {
+        match self {
+            TimerRef::AlertRemoval(labels) => Ok(Timer::AlertRemoval(labels.clone()?)),
+            TimerRef::GroupRemoval(group) => Ok(Timer::GroupRemoval(group.clone()?)),
+            TimerRef::GroupFlush(group) => Ok(Timer::GroupFlush(group.clone()?)),
+        }
+    }
+}
+
+/// A pending timer that borrows its labels or its group.
+#[derive(Clone, Copy)]
+pub(crate) struct Pending<'a> {
+    /// When it fires, in nanoseconds since 1970.
+    pub(crate) moment: u128,
+    pub(crate) timer: TimerRef<'a>,
+}
+
+/// Copies a timer, with what it borrows, if it is pending at or before a moment.
+pub(crate) fn if_due(at: Moment, first: Option<Pending<'_>>) -> Result<Option<Due>, AllocError>
+    ensures { IfOk result (λ due. due ≡ due_by at (option_map due_of first.entry)) }
+{
+    match first {
+        None => Ok(None),
+        Some(first) => {
+            if first.moment <= at.nanoseconds() {
+                let timer = first.timer.to_timer()?;
+                Ok(Some(Due {
+                    moment: first.moment,
+                    timer,
+                }))
+            } else {
+                Ok(None)
+            }
+        }
+    }
+}
+
+/// Returns the earlier of two timers. If both are of one moment, that is the first.
+pub(crate) fn earlier<'a>(a: Option<Pending<'a>>, b: Option<Pending<'a>>) -> Option<Pending<'a>>
+    ensures { option_map due_of result
+        ≡ earlier (option_map due_of a.entry) (option_map due_of b.entry) }
+{
+    match (a, b) {
+        (Some(x), Some(y)) => { if y.moment < x.moment { b } else { a } }
+        (None, _) => b,
+        (_, None) => a,
+    }
+}
