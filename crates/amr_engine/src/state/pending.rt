@@ -1,6 +1,6 @@
 //! The pending timers of alerts and groups: room for their moments, which go by the numbers of what
-//! they are of, and the first of them, which borrows its labels or its group. `stored_alerts.rt` and
-//! `group_timers.rt` keep the moments; nothing is fired here.
+//! they are of, and the first of them, which borrows its labels or its group. `alert_table.rt` and
+//! `roster.rt` keep the moments; nothing is fired here.
 ghost use Rattle.std.specs.Prelude.{◌≡◌, ◌<◌, ◌≤◌, ℕ, length, option_map, OnOk, IfOk};
 ghost use Rattle.amr_tables.specs.Earliest.{moment_at, IsHeld, IsOrdered};
 ghost use Rattle.amr_tables.specs.Numbered.{next_number, rank_of, IsNumbering};
