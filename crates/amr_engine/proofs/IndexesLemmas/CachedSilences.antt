@@ -1,7 +1,7 @@
 -- What the table of silences caches of label sets: nothing at first, then more, and less after
 -- each change of a silence.
-use Rattle.std.proofs.Common.{◌≡◌, ◌≤◌, ◌<◌, ◌+◌, ℕ, Bool, true, false, not, cond, List, [], ◌∷◌, ◌++◌, length, get_or, map, Option, Some, None, arith, refl, sym, ap, subst, ◌∙◌}
-use Rattle.std.specs.Prelude.{◌==◌}
+use Rattle.std.proofs.Common.{◌≡◌, ◌≤◌, ◌<◌, ◌+◌, ℕ, Bool, true, false, cond, List, [], ◌∷◌, ◌++◌, length, get_or, map, Option, Some, None, arith, refl, sym, ap, subst, ◌∙◌}
+use Rattle.std.specs.Prelude.{◌==◌, IfSome}
 use Rattle.std.proofs.lemmas.Bool.Decides.{nat_tests}
 use Rattle.std.proofs.lemmas.List.{get_or-map, length-map}
 use Rattle.std.proofs.Common.{length-append}
@@ -9,12 +9,12 @@ use Rattle.std.proofs.Math.ListN.{get_or-append}
 use Rattle.std.proofs.Math.Seq.{get_or-append_seam}
 use Rattle.std.specs.declared.cmp.Ordering.TheVariants.{Less, Equal, Greater}
 use Rattle.std.specs.List.{filter}
-use Rattle.std.specs.Ordering.{is_eq, nat_cmp, eq_by_cmp}
+use Rattle.std.specs.Ordering.{is_eq, nat_cmp}
 use Rattle.std.specs.declared.cmp.Ordering.{Ordering}
 use Rattle.std.specs.Cmp.{nat_cmp_total, tied_itself}
 use Rattle.std.specs.FinMap.{nat_cmp-IsAntisymmetric}
-use Rattle.amr_labels.specs.Map.{entries, get, set, retain_keys, entries-retain_keys, get-set, get-retain_keys, same_map}
-use Rattle.amr_labels.specs.Labels.{LabelSet, label_set_cmp, label_set_cmp-IsAntisymmetric}
+use Rattle.amr_labels.specs.Map.{Map, entries, empty, get, set, retain_keys, entries-retain_keys, get-empty, get-set, get-retain_keys, same_map}
+use Rattle.amr_labels.specs.Labels.{LabelSet, label_set_cmp, label_set_cmp_total, label_set_cmp-IsAntisymmetric}
 use Rattle.amr_labels.specs.Matcher.ValueBits.{value_bits}
 use Rattle.amr_time.specs.Time.{Moment}
 use Rattle.amr_rules.specs.declared.silence.Silence.{Silence}
@@ -110,15 +110,17 @@ one_less old changed changes found id was same =
           ∙ same_picked test found.from found.labels id old changed same (ap test (sym (get_or-append_seam changes id [] 0)) ∙ none (length changes) version (omega arith));
     }
 
-cached_less : (old changed : Silences) (changes : List ℕ) (cached : List CachedPeriods) (id : ℕ) → AreCached old changes cached → SameOthers id old changed
+cached_less : (old changed : Silences) (changes : List ℕ) (cached : Map label_set_cmp CachedPeriods) (id : ℕ) → AreCached old changes cached → SameOthers id old changed
     → AreCached changed (changes ++ id ∷ []) cached
-cached_less old changed changes cached id are_cached same = λ k d lt. one_less old changed changes (get_or cached k d) id (are_cached k d lt) same
+cached_less old changed changes cached id are_cached same = λ labels found there.
+    let own = are_cached labels found there in
+    (own.0, one_less old changed changes found id own.1 same)
 
 one_more_id : (changes : List SilenceChange) (change : SilenceChange) → changed_ids (changes ++ change ∷ []) ≡ changed_ids changes ++ change.id ∷ []
 one_more_id [] change = refl
 one_more_id (first ∷ changes) change = ap (λ l. first.id ∷ l) (one_more_id changes change)
 
-pub cached_still : (old changed : Silences) (changes : List SilenceChange) (cached : List CachedPeriods) (change : SilenceChange) → SameOthers change.id old changed
+pub cached_still : (old changed : Silences) (changes : List SilenceChange) (cached : Map label_set_cmp CachedPeriods) (change : SilenceChange) → SameOthers change.id old changed
     → AreCached old (changed_ids changes) cached → AreCached changed (changed_ids (changes ++ change ∷ [])) cached
 cached_still old changed changes cached change same are_cached =
     subst (λ (ids : List ℕ). AreCached changed ids cached) (sym (one_more_id changes change)) (cached_less old changed (changed_ids changes) cached change.id are_cached same)
@@ -155,8 +157,22 @@ noted_more old changed changes change same own was =
 pub none_noted : (silences : Silences) (changes : List SilenceChange) → changes ≡ [] → AreNoted silences changes
 none_noted silences changes none = record { latest = λ i one test lt is picks later. absurd (none_before_zero i (subst (λ (l : List SilenceChange). i < length l) none lt)) }
 
-pub none_cached : (silences : Silences) (changes : List ℕ) (cached : List CachedPeriods) → cached ≡ [] → AreCached silences changes cached
-none_cached silences changes cached none = subst (AreCached silences changes) (sym none) (λ k d lt. absurd (omega arith))
+pub none_cached : (silences : Silences) (changes : List ℕ) (cached : Map label_set_cmp CachedPeriods) → cached ≡ empty → AreCached silences changes cached
+none_cached silences changes cached none = λ labels found there.
+    let nothing : get cached labels ≡ None = ap (λ (m : Map label_set_cmp CachedPeriods). get m labels) none ∙ get-empty label_set_cmp labels in
+    absurd (cc (there, nothing))
+
+-- what is cached of one label set is another, or nothing
+pub cached_set : (silences : Silences) (changes : List ℕ) (before after : Map label_set_cmp CachedPeriods) (labels : LabelSet) (other : Option CachedPeriods) → after ≡ set before labels other
+    → IfSome other (λ found. (found.labels ≡ labels) × IsCached silences changes found) → AreCached silences changes before → AreCached silences changes after
+cached_set silences changes before after labels other is right are_cached = λ asked found there.
+    elim (label_set_cmp asked labels) as (λ o. label_set_cmp asked labels ≡ o → cond (is_eq o) other (get before asked) ≡ Some found → (found.labels ≡ asked) × IsCached silences changes found) [
+      | Less ↦ λ tie at. are_cached asked found at
+      | Equal ↦ λ tie at.
+          let own = subst (λ (o : Option CachedPeriods). IfSome o (λ found. (found.labels ≡ labels) × IsCached silences changes found)) at right in
+          (own.0 ∙ sym (label_set_cmp-IsAntisymmetric asked labels tie), own.1)
+      | Greater ↦ λ tie at. are_cached asked found at
+    ] refl (sym (ap (λ (m : Map label_set_cmp CachedPeriods). get m asked) is ∙ get-set label_set_cmp_total before labels other asked) ∙ there)
 
 -- what was worked out just now is cached
 pub filled : (silences : Silences) (changes : List ℕ) (found : CachedPeriods) → found.periods ≡ silence_periods found.from found.labels silences → found.version ≡ length changes
@@ -172,11 +188,3 @@ pub all_seen : (silences : Silences) (changes : List ℕ) (found : CachedPeriods
     → found.periods ≡ silence_periods found.from found.labels silences
 all_seen silences changes found cached version =
     sym (all_picked found.periods) ∙ cached.others (λ id. true) (λ i le lt. absurd (omega arith)) ∙ all_picked (silence_periods found.from found.labels silences)
-
-pub same_labels : (a b : LabelSet) → not (eq_by_cmp label_set_cmp a b) ≡ false → a ≡ b
-same_labels a b e =
-    elim (label_set_cmp a b) as (λ o. label_set_cmp a b ≡ o → not (is_eq o) ≡ false → a ≡ b) [
-      | Less ↦ λ is apart. apart_bools apart
-      | Equal ↦ λ is apart. label_set_cmp-IsAntisymmetric a b is
-      | Greater ↦ λ is apart. apart_bools apart
-    ] refl e

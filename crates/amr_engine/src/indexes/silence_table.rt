@@ -1,7 +1,8 @@
 //! The silences by id, with what is cached of the label sets that flushes asked about: the periods
 //! of the silences that match them. `store.rt` changes the table and asks it which silence mutes.
-ghost use Rattle.std.specs.Prelude.{◌≡◌, ◌<◌, ◌≤◌, ℕ, List, [], Some, is_some, OnOk, IfOk, IfSome};
+ghost use Rattle.std.specs.Prelude.{◌≡◌, ◌<◌, ◌≤◌, [], Some, is_some, OnOk, IfOk, IfSome};
 ghost use Rattle.std.specs.Ordering.{nat_cmp};
+ghost use Rattle.amr_labels.specs.Labels.{label_set_cmp};
 ghost use Rattle.amr_labels.specs.Map as map;
 ghost use Rattle.amr_rules.specs.Muting.{is_silenced, silencer_of};
 ghost use Rattle.amr_rules.specs.SilencePeriods.{silence_periods, silence_rows, silenced_in, unexpired_silences};
@@ -46,10 +47,8 @@ pub struct SilenceTable {
     silences: Keyed<SilenceId, Silence>,
     /// What the patterns of the silences' matchers answered.
     answers: MatchCache,
-    /// What is cached of label sets, in the order in which they were asked about first.
-    cached: Vec<CachedPeriods>,
-    /// Their indexes in that list.
-    index_by_labels: Keyed<Labels, usize>,
+    /// What is cached of label sets.
+    cached: Keyed<Labels, CachedPeriods>,
     /// The changes of silences since the table began to cache, the latest last.
     changes: Vec<SilenceChange>,
     /// The number of label sets, in the order of arrival, that the silences were asked ahead for.
@@ -66,12 +65,13 @@ pub(crate) struct Unexpired {
     pub(crate) listed: Vec<(SilenceId, Silence)>,
 }
 
-ghost use Rattle.amr_engine.specs.Indexes.CachedSilences.{IsCached, AreCached, AreNoted, AreUnexpired, SameOthers, change_of, changed_ids};
+ghost use Rattle.amr_engine.specs.Indexes.CachedSilences.{AreCached, AreNoted, AreUnexpired, SameOthers, change_of, changed_ids};
 
 impl Model for SilenceTable {
     ghost use Rattle.std.specs.Prelude.{ℕ};
     ghost use Rattle.std.specs.Coded.{codes};
     ghost use Rattle.amr_labels.specs.Map as map;
+    ghost use Rattle.amr_labels.specs.Labels.{label_set_cmp};
     ghost use Rattle.amr_rules.specs.declared.silence.Silence.{Silence};
     ghost use Rattle.std.specs.Ordering.{nat_cmp};
     ghost use Rattle.amr_tables.specs.Numbered.{Numbered, map_of};
@@ -84,7 +84,8 @@ impl Model for SilenceTable {
     ghost view = { λ t. t.silences };
 
     ghost invariant = { λ t.
-        AreCached (map_of nat_cmp t.silences) (changed_ids t.changes.items) t.cached.items
+        AreCached (map_of nat_cmp t.silences) (changed_ids t.changes.items)
+        (map_of label_set_cmp t.cached)
         × AreUnexpired (map_of nat_cmp t.silences) t.unexpired
         × AreNoted (map_of nat_cmp t.silences) t.changes.items };
 }
@@ -99,8 +100,7 @@ impl SilenceTable {
             alloc,
             silences: Keyed::new(alloc),
             answers: MatchCache::new(alloc),
-            cached: Vec::new(alloc),
-            index_by_labels: Keyed::new(alloc),
+            cached: Keyed::new(alloc),
             changes: Vec::new(alloc),
             asked_ahead: 0,
             unexpired: None,
@@ -148,7 +148,6 @@ impl SilenceTable {
         forget(
             self.alloc,
             &mut self.cached,
-            &mut self.index_by_labels,
             &mut self.changes,
             &mut self.asked_ahead,
         );
@@ -215,18 +214,25 @@ impl SilenceTable {
     }
 
     /// Returns whether it is cached of labels, from a moment on, when silences that match them are
-    /// active. It first asks the silences that changed since that was cached.
+    /// active. It first asks the silences that changed since that was cached. If memory runs out, it
+    /// forgets the labels.
     fn is_cached(&mut self, at: Moment, labels: &Labels) -> Result<bool, AllocError>
         ensures { self.new ≡ self.old }
     {
-        let index = match self.index_by_labels.get(labels) {
-            Some(index) if *index < self.cached.len() => *index,
-            _ => return Ok(false),
+        let (Some(number), Some(cached)) = self.cached.look_up_number(labels) else {
+            return Ok(false);
         };
-        let cached = &mut self.cached[index];
         if at < cached.from {
             return Ok(false);
         }
+        if cached.version == self.changes.len() {
+            return Ok(true);
+        }
+        let mut taken = None;
+        self.cached.swap_at(number, &mut taken);
+        let Some(mut cached) = taken else {
+            return Ok(false);
+        };
         cached.catch_up(
             self.alloc,
             &mut self.answers,
@@ -234,6 +240,7 @@ impl SilenceTable {
             self.changes.as_slice(),
             at,
         )?;
+        self.cached.swap_at(number, &mut Some(cached));
         Ok(true)
     }
 
@@ -339,7 +346,8 @@ impl SilenceTable {
             version: self.changes.as_slice().len(),
             periods,
         };
-        keep(&mut self.cached, &mut self.index_by_labels, cached)
+        self.cached.insert(labels.clone()?, cached)?;
+        Ok(())
     }
 
     /// Returns what is cached of labels, if it reaches back to a moment and no silence changed
@@ -348,12 +356,8 @@ impl SilenceTable {
         ensures { IfSome result (λ periods. silenced_in at periods.now
             ≡ silencer_of at labels.now (map_of nat_cmp self.now)) }
     {
-        let index = *self.index_by_labels.get(labels)?;
-        if index >= self.cached.len() {
-            return None;
-        }
-        let cached = &self.cached[index];
-        if at < cached.from || cached.version != self.changes.len() || cached.labels != *labels {
+        let cached = self.cached.get(labels)?;
+        if at < cached.from || cached.version != self.changes.len() {
             return None;
         }
         Some(cached.periods.as_slice())
@@ -401,7 +405,6 @@ impl SilenceTable {
         note_change(
             self.alloc,
             &mut self.cached,
-            &mut self.index_by_labels,
             &mut self.changes,
             asked,
             noted,
@@ -414,15 +417,14 @@ impl SilenceTable {
 /// changes, or if there is no room for one more. It takes no memory.
 fn note_change(
     alloc: Global,
-    cached: &mut Vec<CachedPeriods>,
-    index_by_labels: &mut Keyed<Labels, usize>,
+    cached: &mut Keyed<Labels, CachedPeriods>,
     changes: &mut Vec<SilenceChange>,
     asked_ahead: &mut usize,
     noted: SilenceChange,
 )
     ensures cached { (before after : Silences) → SameOthers noted.id before after
-        → AreCached before (changed_ids changes.old.items) cached.old.items
-        → AreCached after (changed_ids changes.new.items) cached.new.items }
+        → AreCached before (changed_ids changes.old.items) (map_of label_set_cmp cached.old)
+        → AreCached after (changed_ids changes.new.items) (map_of label_set_cmp cached.new) }
     ensures noted { (before after : Silences) → SameOthers noted.id before after
         → noted ≡ change_of noted.id (map.get after noted.id)
         → AreNoted before changes.old.items → AreNoted after changes.new.items }
@@ -431,58 +433,21 @@ fn note_change(
     if count < MOST_CHANGES && count < changes.capacity() {
         changes.push_reserved(noted);
     } else {
-        forget(alloc, cached, index_by_labels, changes, asked_ahead);
+        forget(alloc, cached, changes, asked_ahead);
     }
 }
 
 /// Forgets all that is cached of label sets.
 fn forget(
     alloc: Global,
-    cached: &mut Vec<CachedPeriods>,
-    index_by_labels: &mut Keyed<Labels, usize>,
+    cached: &mut Keyed<Labels, CachedPeriods>,
     changes: &mut Vec<SilenceChange>,
     asked_ahead: &mut usize,
 )
-    ensures cached { cached.new.items ≡ [] }
+    ensures cached { map_of label_set_cmp cached.new ≡ map.empty }
     ensures changes { changes.new.items ≡ [] }
 {
-    cached.clear();
-    *index_by_labels = Keyed::new(alloc);
+    *cached = Keyed::new(alloc);
     changes.clear();
     *asked_ahead = 0;
-}
-
-/// Keeps what is cached of a label set in place of what was cached of it before.
-fn keep(
-    cached: &mut Vec<CachedPeriods>,
-    index_by_labels: &mut Keyed<Labels, usize>,
-    one: CachedPeriods,
-) -> Result<(), AllocError>
-    ensures { (silences : Silences) (changes : List ℕ) → IsCached silences changes one
-        → AreCached silences changes cached.old.items
-        → AreCached silences changes cached.new.items }
-{
-    match index_by_labels.get(&one.labels).copied() {
-        Some(index) if index < cached.len() => {
-            cached[index] = one;
-            Ok(())
-        }
-        _ => add(cached, index_by_labels, one),
-    }
-}
-
-/// Adds what is cached of a label set.
-fn add(
-    cached: &mut Vec<CachedPeriods>,
-    index_by_labels: &mut Keyed<Labels, usize>,
-    one: CachedPeriods,
-) -> Result<(), AllocError>
-    ensures { (silences : Silences) (changes : List ℕ) → IsCached silences changes one
-        → AreCached silences changes cached.old.items
-        → AreCached silences changes cached.new.items }
-{
-    let index = cached.len();
-    let labels = one.labels.clone()?;
-    cached.push(one)?;
-    index_by_labels.insert(labels, index)
 }

@@ -1,8 +1,24 @@
-use Rattle.std.proofs.Common.{ℕ, IsTrue, sym, ap, subst, ◌∙◌}
+use Rattle.std.proofs.Common.{ℕ, List, IsTrue, sym, ap, subst, ◌∙◌}
 use Rattle.std.specs.Ordering.{nat_cmp}
-use Rattle.amr_tables.specs.Numbered.{Numbered, has_place, is_entered}
+use Rattle.amr_labels.specs.Labels.{label_set_cmp}
+use Rattle.amr_tables.specs.Numbered.{Numbered, map_of, has_place, is_entered}
 use Rattle.amr_rules.specs.declared.silence.Silence.{Silence}
+use Rattle.amr_rules.specs.Silences.{Silences}
+use Rattle.amr_engine.specs.declared.indexes.silence_change.SilenceChange.{SilenceChange}
+use Rattle.amr_engine.specs.Indexes.CachedSilences.{changed_ids, AreCached, AreNoted, AreUnexpired}
 use Rattle.amr_engine.proofs.indexes.silence_table.SilenceTable.place.Goals as goal
+
+pub invariant_of-self : goal.invariant_of-self
+invariant_of-self c =
+    let t = c.self.inside in
+    let same = c.make_place.ensures.shown in
+    let changes = ap changed_ids c.reserve.ensures.items in (
+      subst (λ (s : Silences). AreCached s (changed_ids c.reserve.new.self.items) (map_of label_set_cmp t.cached)) (sym same)
+          (subst (λ (ids : List ℕ). AreCached (map_of nat_cmp t.silences) ids (map_of label_set_cmp t.cached)) (sym changes) c.self.invariant.0),
+      subst (λ (s : Silences). AreUnexpired s t.unexpired) (sym same) c.self.invariant.1,
+      subst (λ (s : Silences). AreNoted s c.reserve.new.self.items) (sym same)
+          (subst (λ (cs : List SilenceChange). AreNoted (map_of nat_cmp t.silences) cs) (sym c.reserve.ensures.items) c.self.invariant.2),
+    )
 
 pub returns-clause-entered : goal.returns-clause-entered
 returns-clause-entered c = λ other. c.make_place.ensures.entered other ∙ ap (λ (v : Numbered ℕ Silence). is_entered nat_cmp v other) c.self.view_is
