@@ -4,18 +4,18 @@ use Rattle.amr_labels.specs.Labels.{LabelSet, label_set_cmp}
 use Rattle.amr_labels.specs.Map.{Map, get}
 use Rattle.amr_tables.specs.Numbered.{Numbered, map_of}
 use Rattle.amr_config.specs.declared.router.CachedRouting.{CachedRouting}
-use Rattle.amr_config.specs.declared.router.RouteGroup.{RouteGroup}
+use Rattle.amr_config.specs.declared.route_labels.RouteLabels.{RouteLabels}
 use Rattle.amr_config.specs.Stated.Config.{Config}
 use Rattle.amr_config.specs.Routing.{chosen_routes, group_of}
 use Rattle.amr_config.specs.declared.stated.rule_sides.RuleMatch.{RuleMatch}
 use Rattle.amr_config.specs.Stated.RuleMatches.{rule_matches}
 
 -- the group of an alert with these labels at a route
-abbrev pub group_at : Config → LabelSet → ℕ → RouteGroup
+abbrev pub group_at : Config → LabelSet → ℕ → RouteLabels
 group_at config labels route = record { route = route; labels = group_of config route labels }
 
 -- of each route that takes the alert its group
-unfoldable pub groups_of : Config → LabelSet → List RouteGroup
+unfoldable pub groups_of : Config → LabelSet → List RouteLabels
 groups_of config labels = map (group_at config labels) (chosen_routes config labels)
 
 -- what is to be cached of a label set

@@ -8,6 +8,7 @@ ghost use Rattle.amr_config.specs.Stated.RuleMatches.{rule_matches};
 
 use crate::config::Config;
 use crate::group_labels::GroupLabels;
+use crate::route_labels::RouteLabels;
 use crate::routing::chosen_routes;
 use crate::stated::{RuleMatch, rule_matches};
 use amr_labels::matcher::MatchCache;
@@ -34,16 +35,8 @@ pub struct Router {
 /// What is cached of a label set: its groups, and the sides of the inhibition rules that it is on.
 #[derive(Drop)]
 pub(crate) struct CachedRouting {
-    pub(crate) groups: Shared<Listing<RouteGroup>>,
+    pub(crate) groups: Shared<Listing<RouteLabels>>,
     pub(crate) rules: Shared<Listing<RuleMatch>>,
-}
-
-/// A group of alerts: a route, and the group labels that it keeps of the alerts' labels.
-#[derive(Drop)]
-pub struct RouteGroup {
-    /// The route's number in preorder.
-    pub route: usize,
-    pub labels: Labels,
 }
 
 impl Model for Router {
@@ -82,7 +75,7 @@ impl Router {
 
     /// Returns the groups that take an alert with these labels, by route. It asks the routes once
     /// for each label set.
-    pub fn groups_of(&mut self, labels: &Labels) -> Result<Shared<Listing<RouteGroup>>, AllocError>
+    pub fn groups_of(&mut self, labels: &Labels) -> Result<Shared<Listing<RouteLabels>>, AllocError>
         ensures groups { IfOk result (λ groups. groups ≡ groups_of self.old labels.now) }
         ensures same { self.new ≡ self.old }
     {
@@ -123,7 +116,7 @@ impl Router {
 
     /// Works out the groups that take an alert with these labels, and caches them if there is
     /// room.
-    fn work_out(&mut self, labels: &Labels) -> Result<Shared<Listing<RouteGroup>>, AllocError>
+    fn work_out(&mut self, labels: &Labels) -> Result<Shared<Listing<RouteLabels>>, AllocError>
         ensures groups { IfOk result (λ groups. groups ≡ groups_of self.old labels.now) }
         ensures same { self.new ≡ self.old }
     {
@@ -143,7 +136,7 @@ impl Router {
     fn cache_groups(
         &mut self,
         labels: &Labels,
-        groups: Shared<Listing<RouteGroup>>,
+        groups: Shared<Listing<RouteLabels>>,
     ) -> Result<(), AllocError>
         requires { groups ≡ groups_of self.old labels.now }
         ensures { self.new ≡ self.old }
@@ -221,7 +214,7 @@ fn groups_of(
     answers: &mut MatchCache,
     group_labels: &mut GroupLabels,
     labels: &Labels,
-) -> Result<Listing<RouteGroup>, AllocError>
+) -> Result<Listing<RouteLabels>, AllocError>
     ensures { IfOk result (λ groups. groups ≡ groups_of config.now labels.now) }
 {
     let mut groups = Listing::new(alloc);
@@ -238,11 +231,11 @@ fn group_at(
     group_labels: &mut GroupLabels,
     route: usize,
     labels: &Labels,
-) -> Result<RouteGroup, AllocError>
+) -> Result<RouteLabels, AllocError>
     ensures { IfOk result (λ group. group ≡ group_at config.now labels.now route) }
 {
     let made = config.group_of(alloc, route, labels)?;
-    Ok(RouteGroup {
+    Ok(RouteLabels {
         route,
         labels: group_labels.share(made)?,
     })

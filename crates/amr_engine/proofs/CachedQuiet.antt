@@ -21,10 +21,11 @@ use Rattle.amr_rules.specs.declared.alert.Alert.{Alert}
 use Rattle.amr_rules.specs.declared.silence.Silence.{Silence}
 use Rattle.amr_rules.specs.Muting.{Alerts, inhibition_from}
 use Rattle.amr_rules.specs.Silences.{Silences}
-use Rattle.amr_engine.specs.declared.state.route_labels.RouteLabels.{RouteLabels}
+use Rattle.amr_config.specs.declared.route_labels.RouteLabels.{RouteLabels}
 use Rattle.amr_engine.specs.declared.state.notification.GroupTimer.{GroupTimer}
 use Rattle.amr_engine.specs.declared.state.notification.Notification.{Notification}
-use Rattle.amr_engine.specs.State.State.{State, route_labels_cmp, members}
+use Rattle.amr_config.specs.RouteLabels.{route_labels_cmp}
+use Rattle.amr_engine.specs.State.State.{State, members}
 use Rattle.amr_tables.specs.Numbered.{Numbered}
 use Rattle.amr_engine.specs.declared.verdict.Finding.TheVariants.{Inhibited}
 use Rattle.amr_engine.specs.Stages.{by_active_time, by_mute_time, by_silence, taken_away}

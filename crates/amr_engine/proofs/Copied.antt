@@ -15,8 +15,9 @@ use Rattle.amr_config.specs.Stated.Config.{Config}
 use Rattle.amr_config.specs.Routing.{chosen_routes, is_chosen}
 use Rattle.amr_rules.specs.declared.alert.Alert.{Alert}
 use Rattle.amr_rules.specs.Alerts.{alert_to_store}
-use Rattle.amr_engine.specs.declared.state.route_labels.RouteLabels.{RouteLabels}
-use Rattle.amr_engine.specs.State.State.{State, on_route, route_labels_cmp, route_labels_cmp_total, route_labels_cmp-IsAntisymmetric, insert_into_group, insert_into_groups}
+use Rattle.amr_config.specs.declared.route_labels.RouteLabels.{RouteLabels}
+use Rattle.amr_config.specs.RouteLabels.{on_route, route_labels_cmp, route_labels_cmp_total, route_labels_cmp-IsAntisymmetric}
+use Rattle.amr_engine.specs.State.State.{State, insert_into_group, insert_into_groups}
 use Rattle.amr_engine.specs.Events.{put, with_config}
 use Rattle.amr_engine.specs.Weight.{copies}
 

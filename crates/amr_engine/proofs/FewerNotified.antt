@@ -12,7 +12,7 @@ use Rattle.amr_rules.specs.declared.alert.Alert.{Alert}
 use Rattle.amr_rules.specs.declared.dedup.LogEntry.{LogEntry}
 use Rattle.amr_rules.specs.Dedup.{LabelSets, needs_update}
 use Rattle.amr_rules.proofs.Subsets.{all_in, some_listed}
-use Rattle.amr_engine.specs.declared.state.route_labels.RouteLabels.{RouteLabels}
+use Rattle.amr_config.specs.declared.route_labels.RouteLabels.{RouteLabels}
 use Rattle.amr_engine.specs.State.State.{State}
 use Rattle.amr_engine.specs.Flush.{Members, labels_of, log_key_of}
 use Rattle.amr_engine.specs.Quiet.{no_repeat_before, is_notified, are_notified}

@@ -19,9 +19,10 @@ use Rattle.amr_config.specs.Stated.Config.{Config}
 use Rattle.amr_config.specs.Routing.{integrations_of, group_interval_of}
 use Rattle.amr_rules.specs.declared.alert.Alert.{Alert}
 use Rattle.amr_engine.specs.declared.state.notification.GroupTimer.{GroupTimer}
-use Rattle.amr_engine.specs.declared.state.route_labels.RouteLabels.{RouteLabels}
+use Rattle.amr_config.specs.declared.route_labels.RouteLabels.{RouteLabels}
 use Rattle.amr_engine.specs.declared.state.due.Kind.TheVariants.{GroupRemoval}
-use Rattle.amr_engine.specs.State.State.{State, route_labels_cmp, route_labels_cmp_total, route_labels_cmp-IsAntisymmetric, members, members_among}
+use Rattle.amr_config.specs.RouteLabels.{route_labels_cmp, route_labels_cmp_total, route_labels_cmp-IsAntisymmetric}
+use Rattle.amr_engine.specs.State.State.{State, members, members_among}
 use Rattle.amr_engine.specs.State.Dues.{Due, alert_removal_of, group_removal_of, flush_of, least_due, due_by, dues, next_due}
 use Rattle.amr_engine.specs.Flush.{Members, firing_of, resolved_of, let_through, log_key_of, record_notification, notify_if_due, notify_receiver, set_timer, drop_member, mark_if_empty, drop_resolved, run_pipeline, flush}
 use Rattle.amr_engine.specs.Quiet.{all_fire_until, with_timer_reset}

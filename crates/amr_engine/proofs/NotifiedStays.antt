@@ -23,14 +23,15 @@ use Rattle.amr_rules.specs.Silences.{Silences}
 use Rattle.amr_engine.specs.declared.state.notification.LogKey.{LogKey}
 use Rattle.amr_engine.specs.declared.state.notification.GroupTimer.{GroupTimer}
 use Rattle.amr_engine.specs.declared.state.notification.Notification.{Notification}
-use Rattle.amr_engine.specs.declared.state.route_labels.RouteLabels.{RouteLabels}
-use Rattle.amr_engine.specs.State.State.{State, on_route, route_labels_cmp, route_labels_cmp_total, route_labels_cmp-IsAntisymmetric, group_key, members, insert_into_group, insert_into_groups}
+use Rattle.amr_config.specs.declared.route_labels.RouteLabels.{RouteLabels}
+use Rattle.amr_config.specs.RouteLabels.{on_route, route_labels_cmp, route_labels_cmp_total, route_labels_cmp-IsAntisymmetric}
+use Rattle.amr_engine.specs.State.State.{State, group_key, members, insert_into_group, insert_into_groups}
 use Rattle.amr_engine.specs.declared.quiet.Period.{Period}
 use Rattle.amr_engine.specs.declared.quiet.QuietTime.{QuietTime}
 use Rattle.amr_engine.specs.Events as events
 use Rattle.amr_engine.specs.Flush.{Members, labels_of, log_key_of}
 use Rattle.amr_engine.specs.Quiet.{no_repeat_before, is_notified, are_notified, IsAllNotified, LeavesOthers}
-use Rattle.amr_engine.specs.CachedQuiet.{Times, IsNotifiedIn, without_group, without_joined}
+use Rattle.amr_engine.specs.CachedQuiet.{Times, IsNotifiedIn, without_joined}
 use Rattle.amr_engine.proofs.QuietStays.{equal, apart}
 
 -- ---- one group
@@ -142,11 +143,11 @@ module _ (labels : LabelSet) (alert : Alert) where
       (apart route_labels_cmp-IsAntisymmetric (group_key s.config (on_route route labels)) asked (λ e. other (sym e))) (entries s.placements))
 
   -- an alert that is inserted into groups leaves those notified that are still cached
-  left_by_insertions : (routes : List ℕ) (s : State) (times : Times) (group : RouteLabels) (time : QuietTime) → get (fold without_group times (map (group_at s.config labels) routes)) group ≡ Some time
+  left_by_insertions : (routes : List ℕ) (s : State) (times : Times) (group : RouteLabels) (time : QuietTime) → get (fold remove times (map (group_at s.config labels) routes)) group ≡ Some time
       → (IsNotifiedIn s group time.period → IsNotifiedIn (fold (insert_into_group labels alert) s routes) group time.period) × (get times group ≡ Some time)
   left_by_insertions [] s times group time cached = (λ notified. notified, cached)
   left_by_insertions (route ∷ routes) s times group time cached =
-      let rest = left_by_insertions routes (insert_into_group labels alert s route) (without_group times (group_at s.config labels route)) group time cached in
+      let rest = left_by_insertions routes (insert_into_group labels alert s route) (remove times (group_at s.config labels route)) group time cached in
       let here = still_cached times (group_key s.config (on_route route labels)) group time rest.1 in
       (λ notified. rest.0 (stays_notified s (insert_into_group labels alert s route) group refl (λ integration. refl) (inserted_one_members s route group here.0) time.period notified), here.1)
 

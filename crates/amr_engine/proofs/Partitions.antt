@@ -12,7 +12,7 @@ use Rattle.amr_config.specs.Routing.{integrations_of, repeat_interval_of}
 use Rattle.amr_rules.specs.declared.alert.Alert.{Alert}
 use Rattle.amr_rules.specs.Alerts.{is_resolved_at}
 use Rattle.amr_engine.specs.declared.state.notification.LogKey.{LogKey}
-use Rattle.amr_engine.specs.declared.state.route_labels.RouteLabels.{RouteLabels}
+use Rattle.amr_config.specs.declared.route_labels.RouteLabels.{RouteLabels}
 use Rattle.amr_engine.specs.State.State.{State}
 use Rattle.amr_engine.specs.declared.flush.Partition.{Partition}
 use Rattle.amr_engine.specs.Stages.{taken_away}

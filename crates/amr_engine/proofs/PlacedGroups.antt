@@ -7,9 +7,10 @@ use Rattle.amr_labels.specs.Labels.{LabelSet}
 use Rattle.amr_config.specs.Routing.{chosen_routes}
 use Rattle.amr_rules.specs.declared.alert.Alert.{Alert}
 use Rattle.amr_engine.specs.declared.state.notification.GroupTimer.{GroupTimer}
-use Rattle.amr_engine.specs.declared.state.route_labels.RouteLabels.{RouteLabels}
+use Rattle.amr_config.specs.declared.route_labels.RouteLabels.{RouteLabels}
 use Rattle.amr_engine.specs.declared.state.views.Group.{Group}
-use Rattle.amr_engine.specs.State.State.{State, on_route, route_labels_cmp_total, route_labels_cmp-IsAntisymmetric, group_key, members_among, members}
+use Rattle.amr_config.specs.RouteLabels.{on_route, route_labels_cmp_total, route_labels_cmp-IsAntisymmetric}
+use Rattle.amr_engine.specs.State.State.{State, group_key, members_among, members}
 use Rattle.amr_engine.specs.State.Seen.{group_seen, groups_of}
 use Rattle.amr_engine.specs.Placed.{IsTimed, ArePlaced, IsListed, AreListed}
 use Rattle.amr_engine.proofs.PlacedLists.{Each, IsAmong, contains_cases, contains_none, contains_first, contains_rest, among_entries}

@@ -9,8 +9,9 @@ use Rattle.amr_rules.specs.declared.alert.Alert.{Alert}
 use Rattle.amr_engine.specs.declared.state.notification.GroupTimer.{GroupTimer}
 use Rattle.amr_engine.specs.declared.state.due.Kind.{Kind}
 use Rattle.amr_engine.specs.declared.state.due.Kind.TheVariants.{AlertRemoval, GroupRemoval, GroupFlush}
-use Rattle.amr_engine.specs.declared.state.route_labels.RouteLabels.{RouteLabels}
-use Rattle.amr_engine.specs.State.State.{State, on_route, route_labels_cmp_total, route_labels_cmp-IsAntisymmetric, group_key}
+use Rattle.amr_config.specs.declared.route_labels.RouteLabels.{RouteLabels}
+use Rattle.amr_config.specs.RouteLabels.{on_route, route_labels_cmp_total, route_labels_cmp-IsAntisymmetric}
+use Rattle.amr_engine.specs.State.State.{State, group_key}
 use Rattle.amr_engine.specs.State.Dues.{Due, alert_removal_of, group_removal_of, flush_of, dues}
 use Rattle.amr_engine.specs.Moves.{move, move_of_kind}
 use Rattle.amr_engine.specs.Said.{IsIn}

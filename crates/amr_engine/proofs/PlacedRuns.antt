@@ -12,7 +12,8 @@ use Rattle.amr_rules.specs.declared.alert.Alert.{Alert}
 use Rattle.amr_rules.specs.Silences.{Silences, after_post, after_expiry}
 use Rattle.amr_events.specs.Posts.Reasons.{Reason}
 use Rattle.amr_events.specs.Actions.Events.{Event, Act}
-use Rattle.amr_engine.specs.State.State.{State, start, on_route, route_labels_cmp}
+use Rattle.amr_config.specs.RouteLabels.{on_route, route_labels_cmp}
+use Rattle.amr_engine.specs.State.State.{State, start}
 use Rattle.amr_engine.specs.State.Dues.{Due, least_due, due_by, dues, next_due}
 use Rattle.amr_engine.specs.Moves.{move}
 use Rattle.amr_engine.specs.Events.{put_all, valid_alerts, with_config, with_silences, on_ok, after_act, at_moment, put, after_event, run_of, without_notifications}

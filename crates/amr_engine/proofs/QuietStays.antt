@@ -20,8 +20,9 @@ use Rattle.amr_engine.specs.declared.state.notification.LogKey.{LogKey}
 use Rattle.amr_engine.specs.declared.state.notification.GroupTimer.{GroupTimer}
 use Rattle.amr_engine.specs.declared.state.notification.Notification.{Notification}
 use Rattle.amr_rules.specs.Alerts.{is_resolved_at}
-use Rattle.amr_engine.specs.declared.state.route_labels.RouteLabels.{RouteLabels}
-use Rattle.amr_engine.specs.State.State.{State, on_route, route_labels_cmp, route_labels_cmp-IsAntisymmetric, log_key_cmp_total, log_key_cmp-IsAntisymmetric, group_key, members}
+use Rattle.amr_config.specs.declared.route_labels.RouteLabels.{RouteLabels}
+use Rattle.amr_config.specs.RouteLabels.{on_route, route_labels_cmp, route_labels_cmp-IsAntisymmetric}
+use Rattle.amr_engine.specs.State.State.{State, log_key_cmp_total, log_key_cmp-IsAntisymmetric, group_key, members}
 use Rattle.amr_engine.specs.Stages.{taken_away}
 use Rattle.amr_engine.specs.Flush.{Members, firing_of, resolved_of, labels_of, log_key_of, record_notification, notify_if_due, notify_receiver, set_timer, drop_member, mark_if_empty, drop_resolved, run_pipeline, flush, let_through}
 use Rattle.amr_engine.specs.Quiet.{with_timer_reset, no_repeat_before, is_notified, are_notified, IsQuietWith, IsQuiet, LeavesOthers, IsStill, no_source_ends, no_silence_turns}

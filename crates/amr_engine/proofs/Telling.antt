@@ -23,8 +23,9 @@ use Rattle.amr_engine.specs.State.Dues.{Due}
 use Rattle.amr_engine.specs.declared.state.due.Kind.{Kind}
 use Rattle.amr_engine.specs.declared.state.due.Kind.TheVariants.{GroupFlush}
 use Rattle.amr_engine.specs.declared.state.notification.LogKey.{LogKey}
-use Rattle.amr_engine.specs.declared.state.route_labels.RouteLabels.{RouteLabels}
-use Rattle.amr_engine.specs.State.State.{State, on_route, log_key_cmp, log_key_cmp_total, members}
+use Rattle.amr_config.specs.declared.route_labels.RouteLabels.{RouteLabels}
+use Rattle.amr_config.specs.RouteLabels.{on_route}
+use Rattle.amr_engine.specs.State.State.{State, log_key_cmp, log_key_cmp_total, members}
 use Rattle.amr_engine.specs.Stages.{taken_away}
 use Rattle.amr_engine.specs.Flush.{Members, firing_of, resolved_of, labels_of, log_key_of, let_through, record_notification, notify_if_due, notify_receiver, run_pipeline, flush}
 use Rattle.amr_engine.specs.Moves.{move, move_of_kind, Advances}

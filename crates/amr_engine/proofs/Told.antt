@@ -23,8 +23,9 @@ use Rattle.amr_engine.specs.declared.state.due.Kind.{Kind}
 use Rattle.amr_engine.specs.declared.state.due.Kind.TheVariants.{AlertRemoval, GroupRemoval, GroupFlush}
 use Rattle.amr_engine.specs.declared.state.notification.LogKey.{LogKey}
 use Rattle.amr_engine.specs.declared.state.notification.Notification.{Notification}
-use Rattle.amr_engine.specs.declared.state.route_labels.RouteLabels.{RouteLabels}
-use Rattle.amr_engine.specs.State.State.{State, start, on_route, log_key_cmp, log_key_cmp_total, log_key_cmp-IsAntisymmetric, members, insert_into_groups, insert_into_group}
+use Rattle.amr_config.specs.declared.route_labels.RouteLabels.{RouteLabels}
+use Rattle.amr_config.specs.RouteLabels.{on_route}
+use Rattle.amr_engine.specs.State.State.{State, start, log_key_cmp, log_key_cmp_total, log_key_cmp-IsAntisymmetric, members, insert_into_groups, insert_into_group}
 use Rattle.amr_engine.specs.Flush.{Members, firing_of, resolved_of, labels_of, log_key_of, let_through, notified_firing, notified_resolved, notifications_of, record_notification, notify_if_due, notify_receiver, drop_member, mark_if_empty, drop_resolved, run_pipeline, flush}
 use Rattle.amr_engine.specs.Moves.{move, move_of_kind, Advances}
 use Rattle.amr_engine.specs.Events.{put, put_all, valid_alerts, with_config, with_silences, on_ok, after_act, run_of}

@@ -6,9 +6,9 @@ use Rattle.amr_labels.specs.Labels.{LabelSet}
 use Rattle.amr_config.specs.Stated.Config.{Config}
 use Rattle.amr_config.specs.Routing.{HasOwnPath}
 use Rattle.amr_config.specs.Groups.{groups_of}
-use Rattle.amr_config.specs.declared.router.RouteGroup.{RouteGroup}
-use Rattle.amr_engine.specs.declared.state.route_labels.RouteLabels.{RouteLabels}
-use Rattle.amr_engine.specs.State.State.{State, on_route, route_labels_cmp, members}
+use Rattle.amr_config.specs.declared.route_labels.RouteLabels.{RouteLabels}
+use Rattle.amr_config.specs.RouteLabels.{route_labels_cmp}
+use Rattle.amr_engine.specs.State.State.{State, members}
 use Rattle.amr_tables.specs.Numbered.{Numbered, map_of}
 use Rattle.amr_engine.specs.declared.quiet.Period.{Period}
 use Rattle.amr_engine.specs.declared.quiet.QuietTime.{QuietTime}
@@ -52,10 +52,6 @@ pub record IsTrueOf (cache : QuietGroups) (s : State) : Type 0 where
 abbrev pub Outlasts : QuietGroups → State → State → Type 0
 Outlasts cache s t = (group : RouteLabels) (time : QuietTime) → get (quiet_times cache) group ≡ Some time → IsNotifiedIn s group time.period → IsNotifiedIn t group time.period
 
--- without the group
-abbrev pub without_group : Times → RouteGroup → Times
-without_group times group = remove times (on_route group.route group.labels)
-
 -- without the groups that an alert with these labels joins
 abbrev pub without_joined : Config → Times → LabelSet → Times
-without_joined config times labels = fold without_group times (groups_of config labels)
+without_joined config times labels = fold remove times (groups_of config labels)

@@ -11,12 +11,13 @@ use Rattle.amr_rules.specs.declared.alert.Alert.{Alert}
 use Rattle.amr_rules.specs.Alerts.{is_resolved_at}
 use Rattle.amr_rules.specs.declared.dedup.LogEntry.{LogEntry}
 use Rattle.amr_engine.specs.declared.state.notification.GroupTimer.{GroupTimer}
-use Rattle.amr_engine.specs.declared.state.route_labels.RouteLabels.{RouteLabels}
+use Rattle.amr_config.specs.declared.route_labels.RouteLabels.{RouteLabels}
 use Rattle.amr_engine.specs.declared.verdict.Finding.{Finding}
 use Rattle.amr_engine.specs.declared.verdict.Finding.TheVariants.{Waiting, Nowhere, Told, Due}
 use Rattle.amr_engine.specs.declared.verdict.Verdict.{Verdict}
 use Rattle.amr_engine.specs.declared.verdict.Verdict.TheVariants.{Unknown, Ended, AtRoute}
-use Rattle.amr_engine.specs.State.State.{State, on_route}
+use Rattle.amr_config.specs.RouteLabels.{on_route}
+use Rattle.amr_engine.specs.State.State.{State}
 use Rattle.amr_engine.specs.Stages.{taken_away}
 use Rattle.amr_engine.specs.Flush.{log_key_of}
 

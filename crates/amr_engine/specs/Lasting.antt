@@ -4,7 +4,7 @@ use Rattle.amr_labels.specs.Map.{get}
 use Rattle.amr_time.specs.Time.{Moment}
 use Rattle.amr_config.specs.Routing.{group_interval_of}
 use Rattle.amr_engine.specs.declared.state.notification.GroupTimer.{GroupTimer}
-use Rattle.amr_engine.specs.declared.state.route_labels.RouteLabels.{RouteLabels}
+use Rattle.amr_config.specs.declared.route_labels.RouteLabels.{RouteLabels}
 use Rattle.amr_engine.specs.State.State.{State, members}
 use Rattle.amr_engine.specs.Quiet.{all_fire_until}
 

@@ -8,9 +8,10 @@ use Rattle.amr_config.specs.Routing.{chosen_routes, group_of}
 use Rattle.amr_rules.specs.declared.alert.Alert.{Alert}
 use Rattle.amr_rules.specs.Alerts.{is_resolved_at}
 use Rattle.amr_engine.specs.declared.state.notification.GroupTimer.{GroupTimer}
-use Rattle.amr_engine.specs.declared.state.route_labels.RouteLabels.{RouteLabels}
+use Rattle.amr_config.specs.declared.route_labels.RouteLabels.{RouteLabels}
 use Rattle.amr_engine.specs.declared.state.views.Group.{Group}
-use Rattle.amr_engine.specs.State.State.{State, on_route, group_key}
+use Rattle.amr_config.specs.RouteLabels.{on_route}
+use Rattle.amr_engine.specs.State.State.{State, group_key}
 
 -- the group has a timer, by which it isn't empty
 pub record IsTimed (s : State) (group : RouteLabels) : Type 0 where

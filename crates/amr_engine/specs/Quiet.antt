@@ -12,7 +12,7 @@ use Rattle.amr_rules.specs.Silences.{Silences}
 use Rattle.amr_rules.specs.Dedup.{LabelSets, needs_update}
 use Rattle.amr_rules.specs.declared.dedup.LogEntry.{LogEntry}
 use Rattle.amr_engine.specs.declared.state.notification.LogKey.{LogKey}
-use Rattle.amr_engine.specs.declared.state.route_labels.RouteLabels.{RouteLabels}
+use Rattle.amr_config.specs.declared.route_labels.RouteLabels.{RouteLabels}
 use Rattle.amr_engine.specs.State.State.{State, members}
 use Rattle.amr_engine.specs.Flush.{Members, let_through, labels_of, log_key_of, set_timer}
 

@@ -1,7 +1,8 @@
 -- Which of the moves from a state only set a group timer.
 use Rattle.std.specs.Prelude.{◌≡◌, ℕ, zero, suc, Bool, true, if◌then◌else◌, ◌==◌, ◌&&◌, nat_lt, List, [], ◌∷◌, ◌++◌, Option, Some, length}
 use Rattle.std.specs.Option.{option_map_or}
-use Rattle.amr_engine.specs.State.State.{State, on_route}
+use Rattle.amr_config.specs.RouteLabels.{on_route}
+use Rattle.amr_engine.specs.State.State.{State}
 use Rattle.amr_engine.specs.State.Dues.{Due, dues, least_due}
 use Rattle.amr_engine.specs.Moves.{move}
 use Rattle.amr_engine.specs.Quiet.{with_timer_reset}

@@ -8,8 +8,9 @@ ghost use Rattle.amr_engine.specs.Explain.{waiting, finding_of_entry, heard, fin
 
 use crate::log_key::log_key;
 use crate::stages::taken_away;
-use crate::state::{GroupTimer, RouteLabels, Store, group_key};
+use crate::state::{GroupTimer, Store, group_key};
 use crate::verdict::{Finding, Verdict};
+use amr_config::RouteLabels;
 use amr_config::stated::Integration;
 use amr_labels::{Labels, Text};
 use amr_rules::{Alert, LogEntry};

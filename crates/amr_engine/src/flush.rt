@@ -21,9 +21,9 @@ use crate::quiet::QuietGroups;
 use crate::quiet_until::{all_notified_until, quiet_until, still_until};
 use crate::stages::let_through;
 use crate::state::{
-    Change, FiringAlert, GroupTimer, LogKey, Member, Membership, Notification, ResolvedAlert,
-    RouteLabels, Store,
+    Change, FiringAlert, GroupTimer, LogKey, Member, Membership, Notification, ResolvedAlert, Store,
 };
+use amr_config::RouteLabels;
 use amr_config::stated::Integration;
 use amr_labels::{LabelMap, Labels, Listing};
 use amr_rules::{LogEntry, labels_of};

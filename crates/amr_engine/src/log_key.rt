@@ -2,9 +2,9 @@
 ghost use Rattle.std.specs.Prelude.{◌≡◌, IfOk};
 ghost use Rattle.amr_engine.specs.Flush.{log_key_of};
 
-use crate::state::{LogKey, RouteLabels};
-use amr_config::Config;
+use crate::state::LogKey;
 use amr_config::stated::Integration;
+use amr_config::{Config, RouteLabels};
 use std::alloc::{AllocError, Global};
 
 /// Returns the notification log's key for a group and an integration of its receiver.

@@ -16,8 +16,8 @@ ghost use Rattle.amr_labels.specs.Labels.{LabelSet};
 ghost use Rattle.amr_rules.specs.declared.alert.Alert.{Alert};
 
 use crate::scan_budget::ScanBudget;
-use crate::state::{RouteLabels, Store};
-use amr_config::{Config, RouteGroup};
+use crate::state::Store;
+use amr_config::{Config, RouteLabels};
 use amr_labels::Labels;
 use amr_tables::Keyed;
 use amr_time::Moment;
@@ -75,7 +75,7 @@ pub(crate) struct QuietGroups {
     budget: ScanBudget,
 }
 
-ghost use Rattle.amr_engine.specs.CachedQuiet.{times_in, quiet_times, without_group, Outlasts, IsTrueOf};
+ghost use Rattle.amr_engine.specs.CachedQuiet.{times_in, quiet_times, Outlasts, IsTrueOf};
 
 impl QuietGroups {
     /// Returns a cache of no group.
@@ -220,14 +220,12 @@ impl QuietGroups {
 
     /// Forgets what the post of an alert that joins these groups may change: all that is cached of
     /// them, and all that depends on what mutes alerts.
-    pub(crate) fn forget_joined(&mut self, groups: &[RouteGroup])
+    pub(crate) fn forget_joined(&mut self, groups: &[RouteLabels])
         ensures { (s : State) → (alert : LabelSet × Alert) → groups.now ≡ groups_of s.config alert.0
             → IsTrueOf self.old s → IsTrueOf self.new (put s alert) }
     {
-        match remove_all(&mut self.times, groups) {
-            Ok(()) => self.forget_muting(),
-            Err(_) => self.clear(),
-        }
+        remove_all(&mut self.times, groups);
+        self.forget_muting();
     }
 
     /// Forgets what the removal of a stored alert may change, which is nothing if there are no
@@ -282,16 +280,10 @@ fn remove(times: &mut Times, group: &RouteLabels)
 }
 
 /// Removes groups.
-fn remove_all(times: &mut Times, groups: &[RouteGroup]) -> Result<(), AllocError>
-    ensures { OnOk result (times_in times.new
-        ≡ fold without_group (times_in times.old) groups.now) }
+fn remove_all(times: &mut Times, groups: &[RouteLabels])
+    ensures { times_in times.new ≡ fold map.remove (times_in times.old) groups.now }
 {
     for group in groups {
-        let group = RouteLabels {
-            route: group.route,
-            labels: group.labels.clone()?,
-        };
-        remove(times, &group);
+        remove(times, group);
     }
-    Ok(())
 }

@@ -11,9 +11,9 @@ ghost use Rattle.amr_engine.specs.Flush.{let_through, labels_of, log_key_of};
 ghost use Rattle.amr_engine.specs.Quiet.{is_outside, no_alert_ends, no_silence_turns, all_fire_until, is_untimed, is_notified, are_notified, IsStill, IsQuiet, IsAllNotified};
 
 use crate::log_key::log_key;
-use crate::state::{Member, RouteLabels, Store};
-use amr_config::Config;
+use crate::state::{Member, Store};
 use amr_config::stated::Integration;
+use amr_config::{Config, RouteLabels};
 use amr_rules::{LogEntry, is_due_while_firing};
 use amr_time::Moment;
 use std::alloc::AllocError;

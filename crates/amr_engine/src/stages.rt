@@ -72,7 +72,8 @@ fn cache_silences(store: &mut Store, at: Moment, members: &[Member]) -> Result<(
         return Ok(());
     }
     let label_sets = label_sets_of(store.alloc(), members)?;
-    store.cache_silences(at, label_sets.as_slice())
+    store.cache_silences(at, label_sets.as_slice());
+    Ok(())
 }
 
 /// Returns the label sets of members.
@@ -95,7 +96,8 @@ pub(crate) fn cache_sources(store: &mut Store, labels: &Labels) -> Result<(), Al
         return Ok(());
     }
     let matched = store.rule_matches(labels)?;
-    store.cache_sources(matched.get().as_slice())
+    store.cache_sources(matched.get().as_slice());
+    Ok(())
 }
 
 /// Returns the inhibition rule that mutes an alert with these labels, and the labels of the alert

@@ -10,7 +10,8 @@ ghost use Rattle.amr_engine.specs.Quiet.{all_fire_until};
 ghost use Rattle.amr_engine.specs.Lasting.{IsFlushedBeyond};
 
 use crate::quiet_until::first_end;
-use crate::state::{Member, RouteLabels, Store};
+use crate::state::{Member, Store};
+use amr_config::RouteLabels;
 use amr_time::Moment;
 use std::alloc::AllocError;
 

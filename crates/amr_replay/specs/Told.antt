@@ -4,7 +4,8 @@ use Rattle.amr_config.specs.Stated.Config.{Config}
 use Rattle.amr_events.specs.Actions.Events.{Event}
 use Rattle.amr_engine.specs.State.Dues.{Due}
 use Rattle.amr_engine.specs.declared.state.due.Kind.TheVariants.{GroupFlush}
-use Rattle.amr_engine.specs.State.State.{State, on_route}
+use Rattle.amr_config.specs.RouteLabels.{on_route}
+use Rattle.amr_engine.specs.State.State.{State}
 use Rattle.amr_engine.specs.Moves.{move}
 use Rattle.amr_engine.specs.Events.{run_of, move_limit}
 use Rattle.amr_engine.specs.Neutral.{Accepts}

@@ -3,9 +3,10 @@ use Rattle.std.proofs.Common.{◌≡◌, true, None, Some, sym, ap}
 use Rattle.std.specs.Option.{option_map_or}
 use Rattle.amr_labels.specs.Map.{Map, get, insert}
 use Rattle.amr_time.specs.Time.{Moment}
-use Rattle.amr_engine.specs.declared.state.route_labels.RouteLabels.{RouteLabels}
+use Rattle.amr_config.specs.declared.route_labels.RouteLabels.{RouteLabels}
 use Rattle.amr_engine.specs.declared.state.notification.GroupTimer.{GroupTimer}
-use Rattle.amr_engine.specs.State.State.{route_labels_cmp, timers_after_flush}
+use Rattle.amr_config.specs.RouteLabels.{route_labels_cmp}
+use Rattle.amr_engine.specs.State.State.{timers_after_flush}
 
 module _ (next : Moment) (group : RouteLabels) (timers : Map route_labels_cmp GroupTimer) where
   -- of a group without a timer

@@ -13,11 +13,11 @@ use Rattle.amr_labels.specs.Labels.{LabelSet}
 use Rattle.amr_config.specs.Stated.Config.{Config}
 use Rattle.amr_config.specs.Routing.{chosen_routes, group_wait_of}
 use Rattle.amr_config.specs.Groups.{groups_of, group_at}
-use Rattle.amr_config.specs.declared.router.RouteGroup.{RouteGroup}
+use Rattle.amr_config.specs.declared.route_labels.RouteLabels.{RouteLabels}
 use Rattle.amr_rules.specs.declared.alert.Alert.{Alert}
 use Rattle.amr_engine.specs.declared.state.notification.GroupTimer.{GroupTimer}
-use Rattle.amr_engine.specs.declared.state.route_labels.RouteLabels.{RouteLabels}
-use Rattle.amr_engine.specs.State.State.{State, on_route, group_key, timer_with, insert_into_group}
+use Rattle.amr_config.specs.RouteLabels.{on_route}
+use Rattle.amr_engine.specs.State.State.{State, group_key, timer_with, insert_into_group}
 
 -- what follows from the fact at a value
 pub on_ok : {T E : Type 0} (r : Result T E) (P Q : Type 0) → (P → Q) → OnOk r P → OnOk r Q
@@ -46,11 +46,11 @@ put_as_it_is {R = R} o same m k v e =
 
 -- ---- the groups that take an alert
 
-routes_of_made : (config : Config) (labels : LabelSet) (routes : List ℕ) → map (λ (group : RouteGroup). group.route) (map (group_at config labels) routes) ≡ routes
+routes_of_made : (config : Config) (labels : LabelSet) (routes : List ℕ) → map (λ (group : RouteLabels). group.route) (map (group_at config labels) routes) ≡ routes
 routes_of_made config labels [] = refl
 routes_of_made config labels (n ∷ ns) = ap (λ t. n ∷ t) (routes_of_made config labels ns)
 
-pub routes_of_groups : (config : Config) (labels : LabelSet) → map (λ (group : RouteGroup). group.route) (groups_of config labels) ≡ chosen_routes config labels
+pub routes_of_groups : (config : Config) (labels : LabelSet) → map (λ (group : RouteLabels). group.route) (groups_of config labels) ≡ chosen_routes config labels
 unfolding groups_of
 routes_of_groups config labels = routes_of_made config labels (chosen_routes config labels)
 
@@ -62,11 +62,11 @@ pub count_of_groups : (config : Config) (labels : LabelSet) → length (groups_o
 unfolding groups_of
 count_of_groups config labels = made_count config labels (chosen_routes config labels)
 
-made_among : (config : Config) (labels : LabelSet) (routes : List ℕ) (n : ℕ) (group : RouteGroup) → slice_get (map (group_at config labels) routes) n ≡ Some group → group ≡ group_at config labels group.route
+made_among : (config : Config) (labels : LabelSet) (routes : List ℕ) (n : ℕ) (group : RouteLabels) → slice_get (map (group_at config labels) routes) n ≡ Some group → group ≡ group_at config labels group.route
 made_among config labels [] n group e = cc
-made_among config labels (r ∷ rs) zero group e = let same : group_at config labels r ≡ group = cc in sym same ∙ ap (λ (g : RouteGroup). group_at config labels g.route) same
+made_among config labels (r ∷ rs) zero group e = let same : group_at config labels r ≡ group = cc in sym same ∙ ap (λ (g : RouteLabels). group_at config labels g.route) same
 made_among config labels (r ∷ rs) (suc n) group e = made_among config labels rs n group e
 
-pub group_among : (config : Config) (labels : LabelSet) (n : ℕ) (group : RouteGroup) → slice_get (groups_of config labels) n ≡ Some group → group ≡ group_at config labels group.route
+pub group_among : (config : Config) (labels : LabelSet) (n : ℕ) (group : RouteLabels) → slice_get (groups_of config labels) n ≡ Some group → group ≡ group_at config labels group.route
 unfolding groups_of
 group_among config labels n group = made_among config labels (chosen_routes config labels) n group

@@ -30,8 +30,10 @@ use Rattle.amr_tables.proofs.Naming.{key_at_number}
 use Rattle.amr_tables.proofs.Sorting.{same_from_members}
 use Rattle.amr_tables.proofs.Counting.{strictly}
 use Rattle.amr_engine.specs.declared.state.notification.GroupTimer.{GroupTimer}
-use Rattle.amr_engine.specs.declared.state.route_labels.RouteLabels.{RouteLabels}
-use Rattle.amr_engine.specs.State.State.{on_route, route_labels_cmp, route_labels_cmp_total, route_labels_cmp-IsAntisymmetric, group_key, members_among}
+use Rattle.amr_config.specs.declared.route_labels.RouteLabels.{RouteLabels}
+use Rattle.amr_config.specs.RouteLabels.{on_route, route_labels_cmp, route_labels_cmp_total, route_labels_cmp-IsAntisymmetric}
+use Rattle.amr_engine.specs.State.State.{group_key, members_among}
+use Rattle.amr_engine.specs.State.Timed.{AreNumbered}
 use Rattle.amr_engine.specs.State.Rostered.{labels_of_members, labels_of_numbered, numbered_labels, with_alert, group_number, IsNumbered, IsGrouped}
 use Rattle.amr_engine.proofs.StateLemmas.Scheduling.{not_none, the_value, numbered_same, numbered_set, numbered_placed, none_numbered}
 
@@ -126,12 +128,10 @@ set_again (x ∷ xs) (suc n) v h e = ap (λ (ys : List (Option ℕ)). x ∷ ys) 
 
 module _ (config : Config) (a : Numbered RouteLabels Alert) (gs : Numbered RouteLabels GroupTimer) (m : Grouped) (is : IsGrouped config a gs m) where
   -- the same members, with room for more
-  pub grouped_same : (b : Numbered RouteLabels Alert) (hs : Numbered RouteLabels GroupTimer) (k : Grouped) → b.numbers ≡ a.numbers → map_of route_labels_cmp b ≡ map_of route_labels_cmp a → hs.numbers ≡ gs.numbers → map_of route_labels_cmp hs ≡ map_of route_labels_cmp gs
-      → ((n : ℕ) → group_at k n ≡ group_at m n) → length m.groups ≤ length k.groups → m.count ≤ k.count → IsGrouped config b hs k
+  pub grouped_same : (b : Numbered RouteLabels Alert) (hs : Numbered RouteLabels GroupTimer) (k : Grouped) → b.numbers ≡ a.numbers → map_of route_labels_cmp b ≡ map_of route_labels_cmp a → hs.numbers ≡ gs.numbers → ((n : ℕ) → group_at k n ≡ group_at m n) → length m.groups ≤ length k.groups → m.count ≤ k.count → IsGrouped config b hs k
   unfolding has_place
-  grouped_same b hs k numbers shows groups same_groups same longer more = record {
+  grouped_same b hs k numbers shows groups same longer more = record {
     numbered = numbered_same route_labels_cmp_total route_labels_cmp-IsAntisymmetric a b numbers shows is.numbered;
-    groups_numbered = numbered_same route_labels_cmp_total route_labels_cmp-IsAntisymmetric gs hs groups same_groups is.groups_numbered;
     grouped = λ key n at. same n ∙ is.grouped key n (ap (find route_labels_cmp key) (sym numbers) ∙ at)
         ∙ (λ i. option_and_then (λ _. find route_labels_cmp (group_key config key) (sym groups i)) (get (sym shows i) key));
     known = λ key h. subst (λ ns. IsTrue (is_some (find route_labels_cmp (group_key config key) ns))) (sym groups) (is.known key (subst (λ (s : Map route_labels_cmp Alert). IsTrue (is_some (get s key))) shows h));
@@ -145,7 +145,6 @@ module _ (config : Config) (a : Numbered RouteLabels Alert) (gs : Numbered Route
       → b.numbers ≡ a.numbers → map_of route_labels_cmp b ≡ set (map_of route_labels_cmp a) key w → k.groups ≡ slice_set m.groups n (option_map (λ _. g) w) → k.count ≡ m.count → IsGrouped config b gs k
   grouped_set b k key n g w at in_g numbers shows groups count = record {
     numbered = numbered_set route_labels_cmp_total route_labels_cmp-IsAntisymmetric a b key n w at numbers shows is.numbered;
-    groups_numbered = is.groups_numbered;
     grouped = λ other x there. by_key other x (ap (find route_labels_cmp other) (sym numbers) ∙ there);
     known = λ other h. elim (eq_by_cmp route_labels_cmp other key) as (λ y. eq_by_cmp route_labels_cmp other key ≡ y → IsTrue (is_some (cond y w (get (map_of route_labels_cmp a) other))) → IsTrue (has_place route_labels_cmp gs (group_key config other))) [
       | true ↦ λ same _. subst (λ (x : RouteLabels). IsTrue (has_place route_labels_cmp gs (group_key config x))) (sym (tied_key key other same)) (number_place gs (group_key config key) g in_g)
@@ -200,7 +199,6 @@ module _ (config : Config) (a : Numbered RouteLabels Alert) (gs : Numbered Route
   pub grouped_placed : (b : Numbered RouteLabels Alert) (k : RouteLabels) → IsNumbering route_labels_cmp a → number_of route_labels_cmp a k ≡ None → GetsNumber route_labels_cmp a b k (next_number a) → map_of route_labels_cmp b ≡ map_of route_labels_cmp a → next_number a < length m.groups → IsGrouped config b gs m
   grouped_placed b k numbering new gets shows room = record {
     numbered = numbered_placed route_labels_cmp_total route_labels_cmp-IsAntisymmetric a b k (next_number a) gets numbering.within shows is.numbered;
-    groups_numbered = is.groups_numbered;
     grouped = λ key n at. by_number a b k (next_number a) gets (λ key n. group_at m n ≡ group_number config gs key (get (map_of route_labels_cmp a) key))
         (nobody ∙ ap (group_number config gs k) (sym no_value)) is.grouped key n at ∙ ap (λ (s : Map route_labels_cmp Alert). group_number config gs key (get s key)) (sym shows);
     known = λ key h. is.known key (subst (λ (s : Map route_labels_cmp Alert). IsTrue (is_some (get s key))) shows h);
@@ -224,10 +222,9 @@ module _ (config : Config) (a : Numbered RouteLabels Alert) (gs : Numbered Route
           omega (arith, less))
 
   -- a group gets a number
-  pub group_placed : (hs : Numbered RouteLabels GroupTimer) (k : RouteLabels) → IsNumbering route_labels_cmp gs → number_of route_labels_cmp gs k ≡ None → GetsNumber route_labels_cmp gs hs k (next_number gs) → map_of route_labels_cmp hs ≡ map_of route_labels_cmp gs → next_number gs < m.count → IsGrouped config a hs m
-  group_placed hs k numbering new gets shows room = record {
+  pub group_placed : (hs : Numbered RouteLabels GroupTimer) (k : RouteLabels) → number_of route_labels_cmp gs k ≡ None → GetsNumber route_labels_cmp gs hs k (next_number gs) → next_number gs < m.count → IsGrouped config a hs m
+  group_placed hs k new gets room = record {
     numbered = is.numbered;
-    groups_numbered = numbered_placed route_labels_cmp_total route_labels_cmp-IsAntisymmetric gs hs k (next_number gs) gets numbering.within shows is.groups_numbered;
     grouped = λ key n at. is.grouped key n at ∙ same_group key (get (map_of route_labels_cmp a) key) (is.known key);
     known = λ key h. let by = place_number gs (group_key config key) (is.known key h) in number_place hs (group_key config key) by.0 (kept_number gs hs k (next_number gs) new gets (group_key config key) by.0 by.1);
     named = is.named;
@@ -239,24 +236,10 @@ module _ (config : Config) (a : Numbered RouteLabels Alert) (gs : Numbered Route
       same_group key None h = refl
       same_group key (Some x) h = let by = place_number gs (group_key config key) (h refl) in by.1 ∙ sym (kept_number gs hs k (next_number gs) new gets (group_key config key) by.0 by.1)
 
-  -- a group's timer is another
-  pub grouped_timed : (hs : Numbered RouteLabels GroupTimer) (k : RouteLabels) (n : ℕ) (value : Option GroupTimer) → number_of route_labels_cmp gs k ≡ Some n → hs.numbers ≡ gs.numbers → map_of route_labels_cmp hs ≡ set (map_of route_labels_cmp gs) k value → IsGrouped config a hs m
-  unfolding has_place
-  grouped_timed hs k n value at numbers shows = record {
-    numbered = is.numbered;
-    groups_numbered = numbered_set route_labels_cmp_total route_labels_cmp-IsAntisymmetric gs hs k n value at numbers shows is.groups_numbered;
-    grouped = λ key x there. is.grouped key x there ∙ (λ i. option_and_then (λ _. find route_labels_cmp (group_key config key) (sym numbers i)) (get (map_of route_labels_cmp a) key));
-    known = λ key h. subst (λ ns. IsTrue (is_some (find route_labels_cmp (group_key config key) ns))) (sym numbers) (is.known key h);
-    named = is.named;
-    room = is.room;
-    group_room = λ group g there. is.group_room group g (ap (find route_labels_cmp group) (sym numbers) ∙ there);
-  }
-
   -- without members, any configuration may be in force
   pub grouped_again : (after : Config) → map_of route_labels_cmp a ≡ empty → IsGrouped after a gs m
   grouped_again after none = record {
     numbered = is.numbered;
-    groups_numbered = is.groups_numbered;
     grouped = λ key n at. is.grouped key n at ∙ ap (group_number config gs key) (nobody key) ∙ sym (ap (group_number after gs key) (nobody key));
     known = λ key h. absurd (true≢false (sym h ∙ ap is_some (nobody key)));
     named = is.named;
@@ -267,10 +250,9 @@ module _ (config : Config) (a : Numbered RouteLabels Alert) (gs : Numbered Route
       nobody : (key : RouteLabels) → get (map_of route_labels_cmp a) key ≡ None
       nobody key = ap (λ (s : Map route_labels_cmp Alert). get s key) none ∙ get-empty route_labels_cmp key
 
-pub grouped_first : (config : Config) (a : Numbered RouteLabels Alert) (gs : Numbered RouteLabels GroupTimer) (m : Grouped) → a.numbers ≡ [] → map_of route_labels_cmp a ≡ empty → gs.numbers ≡ [] → map_of route_labels_cmp gs ≡ empty → m.groups ≡ [] → IsGrouped config a gs m
-grouped_first config a gs m none no_members no_groups no_values nothing = record {
+pub grouped_first : (config : Config) (a : Numbered RouteLabels Alert) (gs : Numbered RouteLabels GroupTimer) (m : Grouped) → a.numbers ≡ [] → map_of route_labels_cmp a ≡ empty → gs.numbers ≡ [] → m.groups ≡ [] → IsGrouped config a gs m
+grouped_first config a gs m none no_members no_groups nothing = record {
   numbered = none_numbered route_labels_cmp_total route_labels_cmp-IsAntisymmetric a none no_members;
-  groups_numbered = none_numbered route_labels_cmp_total route_labels_cmp-IsAntisymmetric gs no_groups no_values;
   grouped = λ key n at. not_none n _ (sym at ∙ ap (find route_labels_cmp key) none);
   known = λ key h. absurd (true≢false (sym h ∙ ap (λ (s : Map route_labels_cmp Alert). is_some (get s key)) no_members ∙ ap is_some (get-empty route_labels_cmp key)));
   named = λ n g at. not_none g _ (sym at ∙ ap (λ gs. value_at gs n) nothing);
@@ -280,10 +262,10 @@ grouped_first config a gs m none no_members no_groups no_values nothing = record
 
 -- ---- the number of a member of the group
 
-module _ (config : Config) (a : Numbered RouteLabels Alert) (gs : Numbered RouteLabels GroupTimer) (m : Grouped) (is : IsGrouped config a gs m) (group : RouteLabels) (g : ℕ) (at : number_of route_labels_cmp gs group ≡ Some g) where
+module _ (config : Config) (a : Numbered RouteLabels Alert) (gs : Numbered RouteLabels GroupTimer) (m : Grouped) (is : IsGrouped config a gs m) (group : RouteLabels) (numbered : AreNumbered route_labels_cmp gs) (g : ℕ) (at : number_of route_labels_cmp gs group ≡ Some g) where
   grouped_at : (key : RouteLabels) (o : Option Alert) → group_number config gs key o ≡ Some g → IsTrue (is_some o) × (group_key config key ≡ group)
   grouped_at key None e = cc
-  grouped_at key (Some x) e = (refl, is.groups_numbered.apart (group_key config key) group g e at)
+  grouped_at key (Some x) e = (refl, numbered.apart (group_key config key) group g e at)
 
   -- who has a number in the group is a member of it
   pub member_of : (n : ℕ) → group_at m n ≡ Some g → (key : RouteLabels) × (number_of route_labels_cmp a key ≡ Some n) × (IsTrue (is_some (get (map_of route_labels_cmp a) key)) × (group_key config key ≡ group))
@@ -427,7 +409,7 @@ module _ (config : Config) (a : Numbered RouteLabels Alert) (gs : Numbered Route
       nobody key true false e h = refl
       nobody key false y e h = refl
 
-  module _ (g : ℕ) (at : number_of route_labels_cmp gs group ≡ Some g) where
+  module _ (numbered : AreNumbered route_labels_cmp gs) (g : ℕ) (at : number_of route_labels_cmp gs group ≡ Some g) where
     abbrev pub IsListed : List (Bor LabelSet × ℕ) → Type 0
     IsListed members = All (IsNumbered a group.route) (map numbered_labels members)
 
@@ -515,12 +497,12 @@ module _ (config : Config) (a : Numbered RouteLabels Alert) (gs : Numbered Route
           (λ h.
           let by = listed_number members all_listed l h in
           let there : group_at m by.0 ≡ Some g = those.members by.0 (list_any-IsPermutation (λ x. by.0 == x) numbers (numbers_of_listed members) same_numbers ∙ by.1.0) in
-          let member = member_of config a gs m is group g at by.0 there in
+          let member = member_of config a gs m is group numbered g at by.0 there in
           let same : member.0 ≡ key = is.numbered.apart member.0 key by.0 member.1 by.1.1 in
           both _ _ (subst (λ r. is_in config group r ≡ true) same (ap (λ r. eq_by_cmp route_labels_cmp r group) member.2.1 ∙ ap is_eq (tied_itself route_labels_cmp_total group)))
           (subst (λ r. is_some (get (map_of route_labels_cmp a) r) ≡ true) same member.2.0))
           (λ h.
-          let by = number_in config a gs m is group g at key (other_of _ _ h) (tied_key group (group_key config key) (one_of _ _ h)) in
+          let by = number_in config a gs m is group numbered g at key (other_of _ _ h) (tied_key group (group_key config key) (one_of _ _ h)) in
           listed_labels members all_listed l by.0 by.1 (sym (list_any-IsPermutation (λ x. by.0 == x) numbers (numbers_of_listed members) same_numbers) ∙ those.all by.0 by.2))
 
       pub labels_found : labels_of_numbered members ≡ labels_of_members (members_among config (map_of route_labels_cmp a) group)

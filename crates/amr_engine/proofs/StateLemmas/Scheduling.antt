@@ -25,10 +25,10 @@ use Rattle.amr_tables.proofs.Firsts.{ordered_agrees}
 use Rattle.amr_tables.specs.Members.{has}
 use Rattle.amr_tables.proofs.Naming.{key_at_number}
 use Rattle.amr_engine.specs.declared.state.notification.GroupTimer.{GroupTimer}
-use Rattle.amr_engine.specs.declared.state.route_labels.RouteLabels.{RouteLabels}
+use Rattle.amr_config.specs.declared.route_labels.RouteLabels.{RouteLabels}
 use Rattle.amr_engine.specs.declared.state.due.Kind.{Kind}
 use Rattle.amr_engine.specs.declared.state.due.Kind.TheVariants.{AlertRemoval, GroupRemoval, GroupFlush}
-use Rattle.amr_engine.specs.State.State.{on_route, route_labels_cmp, route_labels_cmp_total, route_labels_cmp-IsAntisymmetric}
+use Rattle.amr_config.specs.RouteLabels.{on_route, route_labels_cmp, route_labels_cmp_total, route_labels_cmp-IsAntisymmetric}
 use Rattle.amr_engine.specs.State.Dues.{Due, due_cmp, dues_of}
 use Rattle.amr_engine.specs.State.Timed.{AreNumbered, IsScheduled, AreRemoved, AreTimed, alert_moment, flush_moment, removal_moment, group_moment, IsFirstOfKind}
 use Rattle.amr_engine.proofs.StateLemmas.Least.{sooner, alike}

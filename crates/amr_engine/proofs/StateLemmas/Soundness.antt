@@ -11,7 +11,7 @@ use Rattle.amr_tables.specs.Numbered.{Numbered, number_of, has_place, is_entered
 use Rattle.amr_tables.specs.Records.{Records}
 use Rattle.amr_labels.specs.Labels.{LabelSet, label_set_cmp, label_set_cmp-IsAntisymmetric}
 use Rattle.amr_time.specs.Time.{latest_read}
-use Rattle.amr_engine.specs.declared.state.route_labels.RouteLabels.{RouteLabels}
+use Rattle.amr_config.specs.declared.route_labels.RouteLabels.{RouteLabels}
 use Rattle.amr_engine.specs.declared.state.membership.Membership.{Membership}
 use Rattle.amr_engine.specs.declared.state.notification.LogKey.{LogKey}
 use Rattle.amr_engine.specs.declared.state.notification.GroupTimer.{GroupTimer}
@@ -24,7 +24,8 @@ use Rattle.amr_engine.specs.declared.state.change.Change.{Change}
 use Rattle.amr_engine.specs.declared.state.change.Change.TheVariants.{OfMoment, OfConfig, OfAlert, OfSilence, OfMember, OfTimer, OfLog, OfNotes}
 use Rattle.amr_engine.specs.declared.state.tables.Tables.{Tables}
 use Rattle.amr_engine.specs.State.Records.{after_change, put_back, change_back, same_place, has_entry, IsNoNotification, NotesEntered}
-use Rattle.amr_engine.specs.State.State.{State, member_on_route, route_labels_cmp, route_labels_cmp-IsAntisymmetric, log_key_cmp, log_key_cmp-IsAntisymmetric}
+use Rattle.amr_config.specs.RouteLabels.{route_labels_cmp, route_labels_cmp-IsAntisymmetric}
+use Rattle.amr_engine.specs.State.State.{State, member_on_route, log_key_cmp, log_key_cmp-IsAntisymmetric}
 use Rattle.amr_engine.specs.State.Fitting.{FitsOne, Fits, IsAllowed, is_config, since_config}
 use Rattle.amr_engine.specs.State.Kept.{before_open_record}
 use Rattle.amr_engine.specs.declared.state.store.Store.TheInside.{Inside}

@@ -18,10 +18,10 @@ use Rattle.amr_rules.specs.Muting.{Alerts}
 use Rattle.amr_time.specs.Time.{Moment, second, next_multiple_of}
 use Rattle.amr_tables.specs.Members.{has}
 use Rattle.amr_engine.specs.declared.state.notification.GroupTimer.{GroupTimer}
-use Rattle.amr_engine.specs.declared.state.route_labels.RouteLabels.{RouteLabels}
+use Rattle.amr_config.specs.declared.route_labels.RouteLabels.{RouteLabels}
 use Rattle.amr_engine.specs.declared.state.due.Kind.{Kind}
 use Rattle.amr_engine.specs.declared.state.due.Kind.TheVariants.{AlertRemoval, GroupRemoval, GroupFlush}
-use Rattle.amr_engine.specs.State.State.{on_route, route_labels_cmp, route_labels_cmp_total, route_labels_cmp-IsAntisymmetric}
+use Rattle.amr_config.specs.RouteLabels.{on_route, route_labels_cmp, route_labels_cmp_total, route_labels_cmp-IsAntisymmetric}
 use Rattle.amr_engine.specs.State.Dues.{Due, kind_rank, due_cmp, dues_of, alert_removal_at, alert_removal_of, group_removal_of, flush_of}
 use Rattle.amr_engine.specs.State.Timed.{alert_moment, flush_moment, removal_moment}
 

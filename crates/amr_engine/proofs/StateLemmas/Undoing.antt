@@ -19,7 +19,8 @@ use Rattle.amr_engine.specs.declared.state.notification.GroupTimer.{GroupTimer}
 use Rattle.amr_engine.specs.declared.state.notification.Notification.{Notification}
 use Rattle.amr_engine.specs.declared.state.change.Change.{Change}
 use Rattle.amr_engine.specs.declared.state.change.Change.TheVariants.{OfMoment, OfConfig, OfAlert, OfSilence, OfMember, OfTimer, OfLog, OfNotes}
-use Rattle.amr_engine.specs.State.State.{State, member_on_route, route_labels_cmp, route_labels_cmp_total, route_labels_cmp-IsAntisymmetric, log_key_cmp, log_key_cmp_total, log_key_cmp-IsAntisymmetric}
+use Rattle.amr_config.specs.RouteLabels.{route_labels_cmp, route_labels_cmp_total, route_labels_cmp-IsAntisymmetric}
+use Rattle.amr_engine.specs.State.State.{State, member_on_route, log_key_cmp, log_key_cmp_total, log_key_cmp-IsAntisymmetric}
 use Rattle.amr_engine.specs.State.Records.{after_change, put_back, change_back, same_place, has_entry, IsNoNotification, NotesEntered, befores, before_all}
 use Rattle.amr_engine.specs.State.Kept.{Kept, before_open_record}
 

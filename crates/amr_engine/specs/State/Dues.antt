@@ -18,8 +18,9 @@ use Rattle.amr_engine.specs.declared.state.due.Kind.{Kind}
 use Rattle.amr_engine.specs.declared.state.due.Kind.TheVariants.{AlertRemoval, GroupRemoval, GroupFlush}
 use Rattle.amr_engine.specs.declared.state.due.Timer.{Timer}
 use Rattle.amr_engine.specs.declared.state.due.Timer.TheVariants as timer
-use Rattle.amr_engine.specs.declared.state.route_labels.RouteLabels.{RouteLabels}
-use Rattle.amr_engine.specs.State.State.{State, on_route, route_labels_cmp, route_labels_cmp-IsAntisymmetric}
+use Rattle.amr_config.specs.declared.route_labels.RouteLabels.{RouteLabels}
+use Rattle.amr_config.specs.RouteLabels.{on_route, route_labels_cmp, route_labels_cmp-IsAntisymmetric}
+use Rattle.amr_engine.specs.State.State.{State}
 
 -- A pending timer: when it fires, its kind, and the route and labels of the group. For the removal of
 -- an alert they are 0 and the labels of the alert.

@@ -6,7 +6,8 @@ use Rattle.amr_labels.specs.Map.{get, set}
 use Rattle.amr_labels.specs.Labels.{label_set_cmp}
 use Rattle.amr_engine.specs.declared.state.change.Change.{Change}
 use Rattle.amr_engine.specs.declared.state.change.Change.TheVariants.{OfMoment, OfConfig, OfAlert, OfSilence, OfMember, OfTimer, OfLog, OfNotes}
-use Rattle.amr_engine.specs.State.State.{State, member_on_route, route_labels_cmp, log_key_cmp}
+use Rattle.amr_config.specs.RouteLabels.{route_labels_cmp}
+use Rattle.amr_engine.specs.State.State.{State, member_on_route, log_key_cmp}
 
 -- the state after a change: with the change's value at its place
 abbrev pub after_change : State → Change → State

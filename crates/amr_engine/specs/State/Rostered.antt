@@ -9,8 +9,9 @@ use Rattle.amr_rules.specs.declared.alert.Alert.{Alert}
 use Rattle.amr_tables.specs.Numbered.{Numbered, map_of, has_place, number_of, IsNumber}
 use Rattle.amr_tables.specs.Grouped.{Grouped, group_at}
 use Rattle.amr_engine.specs.declared.state.notification.GroupTimer.{GroupTimer}
-use Rattle.amr_engine.specs.declared.state.route_labels.RouteLabels.{RouteLabels}
-use Rattle.amr_engine.specs.State.State.{on_route, route_labels_cmp, group_key}
+use Rattle.amr_config.specs.declared.route_labels.RouteLabels.{RouteLabels}
+use Rattle.amr_config.specs.RouteLabels.{on_route, route_labels_cmp}
+use Rattle.amr_engine.specs.State.State.{group_key}
 use Rattle.amr_engine.specs.State.Timed.{AreNumbered}
 
 -- the label sets of members
@@ -30,7 +31,6 @@ group_number config timers route_labels alert = option_and_then (λ _. number_of
 -- Each member is in its group, by the numbers of both, and no other number is in a group.
 pub record IsGrouped (config : Config) (placements : Numbered RouteLabels Alert) (timers : Numbered RouteLabels GroupTimer) (members : Grouped) : Type 0 where
   pub numbered : AreNumbered route_labels_cmp placements
-  pub groups_numbered : AreNumbered route_labels_cmp timers
   pub grouped : (key : RouteLabels) (n : ℕ) → number_of route_labels_cmp placements key ≡ Some n → group_at members n ≡ group_number config timers key (get (map_of route_labels_cmp placements) key)
   pub known : (key : RouteLabels) → IsTrue (is_some (get (map_of route_labels_cmp placements) key)) → IsTrue (has_place route_labels_cmp timers (group_key config key))
   pub named : (n g : ℕ) → group_at members n ≡ Some g → IsNumber route_labels_cmp placements n

@@ -13,12 +13,13 @@ use Rattle.std.proofs.Common.{ap}
 use Rattle.std.proofs.lemmas.Map.Lookups.{exact_pairs, exact_bytes, exact_unsigned}
 use Rattle.amr_labels.specs.Labels.{Text, text_cmp, LabelSet, label_set_cmp, label_set_cmp_total, label_set_cmp-IsAntisymmetric}
 use Rattle.amr_time.specs.Time.{Moment, Span}
+use Rattle.amr_config.specs.RouteLabels.{on_route, route_labels_cmp}
 use Rattle.amr_config.specs.Paths.{Path, path_cmp, path_cmp_total, path_cmp-IsAntisymmetric}
 use Rattle.amr_config.specs.Stated.Config.{Config}
 use Rattle.amr_config.specs.Routing.{chosen_routes, group_of, group_wait_of}
 use Rattle.amr_rules.specs.declared.alert.Alert.{Alert}
 use Rattle.amr_rules.specs.declared.dedup.LogEntry.{LogEntry}
-use Rattle.amr_engine.specs.declared.state.route_labels.RouteLabels.{RouteLabels}
+use Rattle.amr_config.specs.declared.route_labels.RouteLabels.{RouteLabels}
 use Rattle.amr_engine.specs.declared.state.membership.Membership.{Membership}
 use Rattle.amr_engine.specs.declared.state.notification.GroupTimer.{GroupTimer}
 use Rattle.amr_engine.specs.declared.state.notification.LogKey.{LogKey}
@@ -26,24 +27,9 @@ use Rattle.amr_engine.specs.declared.state.notification.Notification.{Notificati
 use Rattle.amr_rules.specs.Silences.{Silences}
 use Rattle.amr_rules.specs.Muting.{Alerts}
 
--- a label set on a route: an alert on it, or a group's key
-abbrev pub on_route : ℕ → LabelSet → RouteLabels
-on_route route labels = record { route = route; labels = labels }
-
 -- a member's key: its labels, on the route of its group
 abbrev pub member_on_route : Membership → RouteLabels
 member_on_route member = member.member
-
--- by route, then by labels
-abbrev pub route_labels_cmp : RouteLabels → RouteLabels → Ordering
-route_labels_cmp a b = ordering_then (nat_cmp a.route b.route) (label_set_cmp a.labels b.labels)
-
-pub route_labels_cmp_total : IsTotalOrder route_labels_cmp
-route_labels_cmp_total = then_total (on_total (λ (route_labels : RouteLabels). route_labels.route) nat_cmp_total) (on_total (λ (route_labels : RouteLabels). route_labels.labels) label_set_cmp_total)
-
-pub route_labels_cmp-IsAntisymmetric : IsAntisymmetric route_labels_cmp
-route_labels_cmp-IsAntisymmetric a b tie =
-    ap (λ (p : ℕ × LabelSet). on_route p.0 p.1) (exact_pairs nat_cmp label_set_cmp exact_unsigned label_set_cmp-IsAntisymmetric (a.route, a.labels) (b.route, b.labels) tie)
 
 -- by receiver, integration, group labels and path
 abbrev pub log_key_cmp : LogKey → LogKey → Ordering

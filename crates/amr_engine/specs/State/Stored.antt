@@ -6,12 +6,13 @@ use Rattle.amr_labels.specs.Labels.{LabelSet, label_set_cmp}
 use Rattle.amr_time.specs.Time.{latest_read}
 use Rattle.amr_tables.specs.Numbered.{map_of, has_place, number_of, is_entered}
 use Rattle.amr_tables.specs.Records.{Records}
-use Rattle.amr_engine.specs.declared.state.route_labels.RouteLabels.{RouteLabels}
+use Rattle.amr_config.specs.declared.route_labels.RouteLabels.{RouteLabels}
 use Rattle.amr_engine.specs.declared.state.notification.LogKey.{LogKey}
 use Rattle.amr_engine.specs.declared.state.change.Change.{Change}
 use Rattle.amr_engine.specs.declared.state.change.Change.TheVariants.{OfMoment, OfConfig, OfAlert, OfSilence, OfMember, OfTimer, OfLog, OfNotes}
 use Rattle.amr_engine.specs.declared.state.tables.Tables.{Tables}
-use Rattle.amr_engine.specs.State.State.{State, member_on_route, route_labels_cmp, log_key_cmp}
+use Rattle.amr_config.specs.RouteLabels.{route_labels_cmp}
+use Rattle.amr_engine.specs.State.State.{State, member_on_route, log_key_cmp}
 use Rattle.amr_engine.specs.State.Records.{change_back, same_place, has_entry, NotesEntered}
 use Rattle.amr_engine.specs.State.Fitting.{Fits, since_config}
 use Rattle.amr_engine.specs.State.Kept.{Kept}

@@ -11,7 +11,7 @@ use Rattle.amr_tables.specs.Numbered.{Numbered, map_of, has_place, number_of, ra
 use Rattle.amr_tables.specs.Earliest.{Earliest, moment_at, IsHeld, IsOrdered}
 use Rattle.amr_tables.specs.Members.{has}
 use Rattle.amr_engine.specs.declared.state.notification.GroupTimer.{GroupTimer}
-use Rattle.amr_engine.specs.declared.state.route_labels.RouteLabels.{RouteLabels}
+use Rattle.amr_config.specs.declared.route_labels.RouteLabels.{RouteLabels}
 use Rattle.amr_engine.specs.declared.state.due.Kind.{Kind}
 use Rattle.amr_engine.specs.declared.state.due.Kind.TheVariants.{AlertRemoval, GroupRemoval, GroupFlush}
 use Rattle.amr_engine.specs.declared.state.due.Timer.{Timer}
@@ -19,7 +19,7 @@ use Rattle.amr_engine.specs.declared.state.due.Timer.TheVariants as timer
 use Rattle.amr_engine.specs.declared.state.pending.Pending.{Pending}
 use Rattle.amr_engine.specs.declared.state.pending.TimerRef.{TimerRef}
 use Rattle.amr_engine.specs.declared.state.pending.TimerRef.TheVariants as ref
-use Rattle.amr_engine.specs.State.State.{route_labels_cmp}
+use Rattle.amr_config.specs.RouteLabels.{route_labels_cmp}
 use Rattle.amr_engine.specs.State.Dues.{Due, due_at, due_cmp, alert_removal_at, group_removal_at}
 
 -- when an alert is removed

@@ -10,7 +10,7 @@ ghost use Rattle.amr_tables.specs.Places.{values_of};
 ghost use Rattle.amr_tables.specs.Numbered.{map_of, number_of, EntersAt, KeepsPlaces, SamePlaces, SameEntered, NoneEntered, IsMarkOf, IsNumber, IsSetAt, IsValueOf};
 ghost use Rattle.amr_rules.specs.Muting.{sources_of};
 ghost use Rattle.amr_engine.specs.Indexes.RuleSources.{AllArrived, pairs_of, stored_of};
-ghost use Rattle.amr_engine.specs.State.State.{route_labels_cmp};
+ghost use Rattle.amr_config.specs.RouteLabels.{route_labels_cmp};
 ghost use Rattle.amr_engine.specs.State.Dues.{dues_of};
 ghost use Rattle.amr_engine.specs.declared.state.due.Kind.TheVariants.{AlertRemoval};
 ghost use Rattle.amr_engine.specs.declared.state.notification.GroupTimer.{GroupTimer};
@@ -18,7 +18,7 @@ ghost use Rattle.amr_engine.specs.State.Timed.{AreNumbered, IsScheduled, IsFirst
 
 use crate::indexes::RuleSources;
 use crate::state::due::alert_removal;
-use crate::state::pending::{Pending, TimerRef, make_room};
+use crate::state::pending::{Pending, TimerRef, count_with_next};
 use amr_config::stated::{InhibitRule, RuleMatch};
 use amr_labels::{LabelMap, Labels};
 use amr_rules::{Alert, AlertStore, is_agreeing};
@@ -176,7 +176,8 @@ impl AlertTable {
         ensures places { KeepsPlaces label_set_cmp self.old self.new }
     {
         let copy = labels.clone()?;
-        make_room(&mut self.removals, &self.alerts)?;
+        let count = count_with_next(&self.alerts)?;
+        self.removals.reserve(&self.alerts, count)?;
         self.sources.add(labels.clone()?)?;
         let number = self.alerts.make_place(copy)?;
         Ok(number)

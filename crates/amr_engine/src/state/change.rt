@@ -4,8 +4,7 @@ ghost use Rattle.std.specs.Prelude.{◌≡◌, IfOk};
 
 use crate::state::membership::Membership;
 use crate::state::notification::{GroupTimer, LogKey};
-use crate::state::route_labels::RouteLabels;
-use amr_config::{Config, Router};
+use amr_config::{Config, RouteLabels, Router};
 use amr_events::posts::SilenceId;
 use amr_labels::Labels;
 use amr_rules::{Alert, LogEntry, Silence};

@@ -5,7 +5,7 @@ ghost use Rattle.amr_time.specs.Time.{latest_read};
 ghost use Rattle.amr_engine.specs.State.Dues.{alert_removal_at, group_removal_at};
 
 use crate::state::notification::GroupTimer;
-use crate::state::route_labels::RouteLabels;
+use amr_config::RouteLabels;
 use amr_labels::Labels;
 use amr_rules::Alert;
 use amr_time::{Moment, Span, next_multiple};

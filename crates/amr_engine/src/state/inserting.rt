@@ -12,9 +12,8 @@ ghost use Rattle.amr_engine.specs.State.Kept.{GrownBy, before_open_record};
 use crate::state::change::Change;
 use crate::state::membership::Membership;
 use crate::state::notification::GroupTimer;
-use crate::state::route_labels::RouteLabels;
 use crate::state::store::Store;
-use amr_config::RouteGroup;
+use amr_config::RouteLabels;
 use amr_labels::Labels;
 use amr_rules::Alert;
 use amr_time::{Moment, Span};
@@ -39,7 +38,7 @@ pub fn insert_into_groups(
 /// Inserts an alert into its groups, which are these.
 pub(crate) fn insert_into_each(
     store: &mut Store,
-    groups: &[RouteGroup],
+    groups: &[RouteLabels],
     labels: &Labels,
     alert: &Alert,
 ) -> Result<(), AllocError>
@@ -74,26 +73,26 @@ fn stays(before: &Option<GroupTimer>, after: &GroupTimer) -> bool
 /// posted again whose group has it already.
 fn change_timer(
     store: &mut Store,
-    group: RouteLabels,
+    group: &RouteLabels,
     before: Option<GroupTimer>,
     after: GroupTimer,
 ) -> Result<(), AllocError>
-    requires { before ≡ map.get store.old.state.timers group }
+    requires { before ≡ map.get store.old.state.timers group.now }
     ensures ok { OnOk result (store.new.state
-        ≡ record store.old.state { timers = map.insert store.old.state.timers group after }) }
+        ≡ record store.old.state { timers = map.insert store.old.state.timers group.now after }) }
     ensures kept { before_open_record store.new ≡ before_open_record store.old }
     ensures grown { GrownBy 1 store.old store.new }
 {
     if stays(&before, &after) {
         return Ok(());
     }
-    store.change(Change::OfTimer(group, Some(after)))
+    store.change(Change::OfTimer(group.clone()?, Some(after)))
 }
 
 /// Inserts an alert into a group, and sets the group timer.
 fn insert_into_group(
     store: &mut Store,
-    group: &RouteGroup,
+    group: &RouteLabels,
     labels: &Labels,
     alert: &Alert,
 ) -> Result<(), AllocError>
@@ -103,15 +102,10 @@ fn insert_into_group(
     ensures kept { before_open_record store.new ≡ before_open_record store.old }
     ensures grown { GrownBy 2 store.old store.new }
 {
-    let route = group.route;
-    let group = RouteLabels {
-        route,
-        labels: group.labels.clone()?,
-    };
-    let wait = store.config().group_wait(route);
-    let before = store.timers().get(&group).copied();
+    let wait = store.config().group_wait(group.route);
+    let before = store.timers().get(group).copied();
     let after = timer_with(store.moment(), wait, alert, before);
-    let member = Membership::new(&group, labels)?;
+    let member = Membership::new(group, labels)?;
     store.change(Change::OfMember(member, Some(alert.clone()?)))?;
     change_timer(store, group, before, after)
 }

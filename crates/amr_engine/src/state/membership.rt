@@ -1,11 +1,12 @@
 //! Which label set is in which group, as records of the journal name a member. `roster.rt` keeps the
 //! members.
 ghost use Rattle.std.specs.Prelude.{◌≡◌, IfOk};
-ghost use Rattle.amr_engine.specs.State.State.{on_route};
+ghost use Rattle.amr_config.specs.RouteLabels.{on_route};
+ghost use Rattle.amr_engine.specs.State.State.{group_key};
 
-use crate::state::route_labels::RouteLabels;
+use amr_config::{Config, RouteLabels};
 use amr_labels::Labels;
-use std::alloc::AllocError;
+use std::alloc::{AllocError, Global};
 
 /// A label set in a group.
 #[derive(Drop)]
@@ -31,4 +32,17 @@ impl Membership {
             member,
         })
     }
+}
+
+/// Returns the group of an alert on a route.
+pub fn group_key(
+    alloc: Global,
+    config: &Config,
+    route: usize,
+    labels: &Labels,
+) -> Result<RouteLabels, AllocError>
+    ensures { IfOk result (λ group. group ≡ group_key config.now (on_route route labels.now)) }
+{
+    let labels = config.group_of(alloc, route, labels)?;
+    Ok(RouteLabels { route, labels })
 }

@@ -1,34 +1,27 @@
-//! The pending timers of alerts and groups: room for their moments, which go by the numbers of what
-//! they are of, and the first of them, which borrows its labels or its group. `alert_table.rt` and
-//! `roster.rt` keep the moments; nothing is fired here.
-ghost use Rattle.std.specs.Prelude.{◌≡◌, ◌<◌, ◌≤◌, ℕ, length, option_map, OnOk, IfOk};
-ghost use Rattle.amr_tables.specs.Earliest.{moment_at, IsHeld, IsOrdered};
-ghost use Rattle.amr_tables.specs.Numbered.{next_number, rank_of, IsNumbering};
+//! The pending timers of alerts and groups: for how many of them room is made, and the first of them,
+//! which borrows its labels or its group. `alert_table.rt` and `roster.rt` keep the moments, which go
+//! by the numbers of what they are of; nothing is fired here.
+ghost use Rattle.std.specs.Prelude.{◌≡◌, ◌+◌, option_map, IfOk};
+ghost use Rattle.amr_tables.specs.Numbered.{next_number, IsNumbering};
 ghost use Rattle.amr_engine.specs.State.Dues.{due_by};
 ghost use Rattle.amr_engine.specs.State.Timed.{timer_of, due_of, earlier};
 
 use crate::state::due::{Due, Timer};
-use crate::state::route_labels::RouteLabels;
+use amr_config::RouteLabels;
 use amr_labels::Labels;
-use amr_tables::{Earliest, Key, Keyed};
+use amr_tables::{Key, Keyed};
 use amr_time::Moment;
 use std::alloc::AllocError;
 
-/// Makes room for the moment of the number that the next new key of a table gets.
-pub(crate) fn make_room<K: Key + Drop, V: Drop>(
-    moments: &mut Earliest,
+/// Returns how many keys a table has when the next one has come.
+pub(crate) fn count_with_next<K: Key + Drop, V: Drop>(
     table: &Keyed<K, V>,
-) -> Result<(), AllocError>
-    requires { IsOrdered (rank_of K.cmp table.now) moments.old }
-    ensures room { OnOk result (next_number table.now < length moments.new.moments) }
-    ensures more { length moments.old.moments ≤ length moments.new.moments }
-    ensures same { (n : ℕ) → moment_at moments.new n ≡ moment_at moments.old n }
-    ensures held { (n : ℕ) → IsHeld moments.new n → IsHeld moments.old n }
-    ensures kept { IsOrdered (rank_of K.cmp table.now) moments.new }
+) -> Result<usize, AllocError>
+    ensures count { IfOk result (λ count. count ≡ next_number table.now + 1) }
     ensures numbering { IsNumbering K.cmp table.now }
 {
     match table.next_number().checked_add(1) {
-        Some(count) => moments.reserve(table, count),
+        Some(count) => Ok(count),
         None => Err(AllocError),
     }
 }

@@ -7,9 +7,10 @@ ghost use Rattle.amr_labels.specs.Labels.{label_set_cmp};
 ghost use Rattle.amr_labels.specs.Map as map;
 ghost use Rattle.amr_config.specs.Groups.{groups_of};
 ghost use Rattle.amr_config.specs.Stated.RuleMatches.{rule_matches};
-ghost use Rattle.amr_tables.specs.Numbered.{map_of, has_place, number_of, key_at, next_number, IsMarkOf, IsNumber, IsNumbering, IsSetAt, IsValueOf, KeepsPlaces, SamePlaces, EntersAt, SameEntered, NoneEntered};
+ghost use Rattle.amr_tables.specs.Numbered.{map_of, has_place, number_of, key_at, IsMarkOf, IsNumber, IsNumbering, IsSetAt, IsValueOf, KeepsPlaces, SamePlaces, EntersAt, SameEntered, NoneEntered};
 ghost use Rattle.std.specs.List.{All, filter_map, cons_option};
-ghost use Rattle.amr_engine.specs.State.State.{member_on_route, route_labels_cmp, group_key, members_among};
+ghost use Rattle.amr_config.specs.RouteLabels.{route_labels_cmp};
+ghost use Rattle.amr_engine.specs.State.State.{member_on_route, group_key, members_among};
 ghost use Rattle.amr_engine.specs.State.Dues.{dues_of, kind_of, group_of};
 ghost use Rattle.amr_engine.specs.declared.state.due.Kind.TheVariants.{AlertRemoval, GroupRemoval, GroupFlush};
 ghost use Rattle.amr_engine.specs.State.Timed.{AreNumbered, IsScheduled, IsFirstOfKind, flush_moment, removal_moment, group_moment, timer_of, due_of};
@@ -20,10 +21,9 @@ use crate::state::due::{Kind, group_removal};
 use crate::state::members::Member;
 use crate::state::membership::Membership;
 use crate::state::notification::GroupTimer;
-use crate::state::pending::{Pending, TimerRef, make_room};
-use crate::state::route_labels::RouteLabels;
+use crate::state::pending::{Pending, TimerRef, count_with_next};
 use amr_config::stated::RuleMatch;
-use amr_config::{Config, RouteGroup, Router};
+use amr_config::{Config, RouteLabels, Router};
 use amr_labels::{Labels, Listing, Shared};
 use amr_rules::Alert;
 use amr_tables::{Earliest, Grouped, Keyed};
@@ -95,7 +95,7 @@ impl Roster {
     pub(crate) fn groups_of(
         &mut self,
         labels: &Labels,
-    ) -> Result<Shared<Listing<RouteGroup>>, AllocError>
+    ) -> Result<Shared<Listing<RouteLabels>>, AllocError>
         ensures groups { IfOk result (λ groups. groups ≡ groups_of self.old.config labels.now) }
         ensures same { self.new ≡ self.old }
     {
@@ -358,8 +358,8 @@ impl Roster {
         let key = group.clone()?;
         let count = count_with_next(&self.timers)?;
         self.members.reserve_groups(count)?;
-        make_room(&mut self.flushes, &self.timers)?;
-        make_room(&mut self.removals, &self.timers)?;
+        self.flushes.reserve(&self.timers, count)?;
+        self.removals.reserve(&self.timers, count)?;
         // Groups are flushed in turn. Without room in the queue, their moments take longer.
         drop(self.flushes.reserve_queue());
         let number = self.timers.make_place(key)?;
@@ -399,17 +399,6 @@ fn group_if_member(
     match alert {
         None => None,
         Some(_) => timers.number_of(group),
-    }
-}
-
-/// Returns how many keys a table has when the next one has come.
-fn count_with_next<V: Drop>(table: &Keyed<RouteLabels, V>) -> Result<usize, AllocError>
-    ensures count { IfOk result (λ count. count ≡ next_number table.now + 1) }
-    ensures numbering { IsNumbering route_labels_cmp table.now }
-{
-    match table.next_number().checked_add(1) {
-        Some(count) => Ok(count),
-        None => Err(AllocError),
     }
 }
 

@@ -16,7 +16,8 @@ ghost use Rattle.amr_tables.specs.Numbered.{map_of};
 ghost use Rattle.amr_time.specs.Time.{latest_read};
 ghost use Rattle.amr_rules.specs.Alerts.{alert_to_store};
 ghost use Rattle.amr_rules.specs.Muting.{is_silenced, silencer_of};
-ghost use Rattle.amr_engine.specs.State.State.{start, members, group_key, timers_after_flush, route_labels_cmp, log_key_cmp};
+ghost use Rattle.amr_config.specs.RouteLabels.{route_labels_cmp};
+ghost use Rattle.amr_engine.specs.State.State.{start, members, group_key, timers_after_flush, log_key_cmp};
 ghost use Rattle.amr_engine.specs.State.Dues.{next_due};
 ghost use Rattle.amr_engine.specs.State.Logged.{is_due};
 ghost use Rattle.amr_engine.specs.State.Kept.{GrownBy, before_open_record};
@@ -30,13 +31,12 @@ use crate::state::change::{BoxedRouter, Change};
 use crate::state::due::Due;
 use crate::state::entering::{enter, make_room};
 use crate::state::members::Member;
-use crate::state::membership::Membership;
+use crate::state::membership::{Membership, group_key};
 use crate::state::notification::{GroupTimer, LogKey, Notification};
 use crate::state::roster::Roster;
-use crate::state::route_labels::{RouteLabels, group_key};
 use crate::state::tables::Tables;
 use amr_config::stated::RuleMatch;
-use amr_config::{Config, RouteGroup};
+use amr_config::{Config, RouteLabels};
 use amr_events::posts::SilenceId;
 use amr_labels::{Labels, Listing, Shared};
 use amr_rules::{Alert, LogEntry, Silence, merge, needs_update};
@@ -237,24 +237,22 @@ impl Store {
     /// Works out when silences that match these label sets are active, so that `silenced_by`
     /// needn't ask their matchers at this moment or later. It does so once for each label set until
     /// a silence changes. It may do so for others that have a place, too.
-    pub fn cache_silences(&mut self, at: Moment, label_sets: &[Labels]) -> Result<(), AllocError>
-        ensures same { self.new ≡ self.old }
+    pub fn cache_silences(&mut self, at: Moment, label_sets: &[Labels])
+        ensures { self.new ≡ self.old }
     {
         let arrived = self.tables.alerts.arrived();
         self.tables.silences.cache(at, label_sets, arrived);
-        Ok(())
     }
 
     /// Works out which label sets can be sources of the inhibition rules that have a label set as a
     /// target, given which sides of each rule it is on, so that inhibition needn't look for them
     /// among all stored alerts. It asks the source matchers of such a rule once for each label set.
-    pub fn cache_sources(&mut self, matched: &[RuleMatch]) -> Result<(), AllocError>
-        ensures same { self.new ≡ self.old }
+    pub fn cache_sources(&mut self, matched: &[RuleMatch])
+        ensures { self.new ≡ self.old }
     {
         self.tables
             .alerts
             .cache_sources(self.tables.roster.config().rules(), matched);
-        Ok(())
     }
 
     /// Returns the members of all groups, by route and labels.
@@ -316,7 +314,7 @@ impl Store {
 
     /// Returns the group of this label set on each route that takes it, by route. It computes them
     /// once for each label set and configuration.
-    pub fn groups_of(&mut self, labels: &Labels) -> Result<Shared<Listing<RouteGroup>>, AllocError>
+    pub fn groups_of(&mut self, labels: &Labels) -> Result<Shared<Listing<RouteLabels>>, AllocError>
         ensures groups { IfOk result (λ groups. groups
             ≡ groups_of self.old.state.config labels.now) }
         ensures same { self.new ≡ self.old }
@@ -478,10 +476,7 @@ impl Store {
         let route = route_labels.route;
         let groups = self.groups_of(&route_labels.labels)?;
         match group_among(groups.get().as_slice(), route) {
-            Some(group) => Ok(RouteLabels {
-                route,
-                labels: group.labels.clone()?,
-            }),
+            Some(group) => group.clone(),
             None => group_key(self.alloc, self.config(), route, &route_labels.labels),
         }
     }
@@ -559,7 +554,7 @@ fn keys_of<V: Drop>(
 }
 
 /// Returns the group on a route, given groups in the order of their routes.
-fn group_among(groups: &[RouteGroup], route: usize) -> Option<&RouteGroup>
+fn group_among(groups: &[RouteLabels], route: usize) -> Option<&RouteLabels>
     ensures { IfSome result (λ group. (group.now.route ≡ route)
         × (n : ℕ) × (slice_get groups.now n ≡ Some group.now)) }
 {

@@ -4,7 +4,8 @@
 ghost use Rattle.std.specs.Prelude.{◌≡◌, Some, IsTrue, IfOk, not};
 ghost use Rattle.amr_tables.specs.Numbered.{map_of, has_place, number_of, KeepsPlaces, SameEntered};
 ghost use Rattle.amr_labels.specs.Labels.{label_set_cmp};
-ghost use Rattle.amr_engine.specs.State.State.{log_key_cmp, route_labels_cmp};
+ghost use Rattle.amr_config.specs.RouteLabels.{route_labels_cmp};
+ghost use Rattle.amr_engine.specs.State.State.{log_key_cmp};
 ghost use Rattle.amr_engine.specs.State.Dues.{dues_of, due_by, least_due};
 ghost use Rattle.amr_engine.specs.State.Records.{after_change, change_back};
 ghost use Rattle.amr_engine.specs.State.Fitting.{FitsOne, is_config};

@@ -6,8 +6,8 @@ ghost use Rattle.amr_labels.specs.Map.{entries};
 ghost use Rattle.amr_engine.specs.State.State.{members};
 
 use crate::state::notification::GroupTimer;
-use crate::state::route_labels::RouteLabels;
 use crate::state::store::Store;
+use amr_config::RouteLabels;
 use amr_labels::{Labels, Listing};
 use amr_rules::Alert;
 use amr_time::Moment;

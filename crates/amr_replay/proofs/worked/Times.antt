@@ -6,7 +6,7 @@ use Rattle.amr_labels.specs.Labels.{Text, LabelSet}
 use Rattle.amr_time.specs.Time.{Moment, second, minute, hour}
 use Rattle.amr_events.specs.declared.posts.posted_alert.PostedAlert.{PostedAlert}
 use Rattle.amr_engine.specs.declared.state.notification.GroupTimer.{GroupTimer}
-use Rattle.amr_engine.specs.declared.state.route_labels.RouteLabels.{RouteLabels}
+use Rattle.amr_config.specs.declared.route_labels.RouteLabels.{RouteLabels}
 use Rattle.amr_engine.specs.Events.{run_of, replaying}
 use Rattle.amr_replay.proofs.worked.Setting.{ten, config_ops, alert, posts, ticks, notified}
 

@@ -10,7 +10,7 @@ use Rattle.amr_config.specs.declared.stated.route.Grouping.TheVariants.{Named}
 use Rattle.amr_config.specs.Stated.Config.{Config}
 use Rattle.amr_events.specs.Actions.Events.{Event, Act}
 use Rattle.amr_engine.specs.declared.state.notification.GroupTimer.{GroupTimer}
-use Rattle.amr_engine.specs.declared.state.route_labels.RouteLabels.{RouteLabels}
+use Rattle.amr_config.specs.declared.route_labels.RouteLabels.{RouteLabels}
 use Rattle.amr_engine.specs.Events.{run_of, replaying}
 use Rattle.amr_engine.specs.declared.verdict.Finding.TheVariants as finding
 use Rattle.amr_engine.specs.declared.verdict.Verdict.TheVariants as verdict

@@ -1,5 +1,5 @@
 use Rattle.std.proofs.Common.{sym, ◌∙◌}
-use Rattle.amr_engine.specs.State.State.{route_labels_cmp_total, route_labels_cmp-IsAntisymmetric}
+use Rattle.amr_config.specs.RouteLabels.{route_labels_cmp_total, route_labels_cmp-IsAntisymmetric}
 use Rattle.amr_engine.proofs.Forgetting.{none_placed, unknown_left}
 use Rattle.amr_engine.proofs.quiet.remove.Goals as goal
 

@@ -1,8 +1,9 @@
 use Rattle.std.proofs.Common.{◌≡◌, drop}
 use Rattle.std.specs.List.{fold}
-use Rattle.amr_engine.specs.CachedQuiet.{times_in, without_group}
+use Rattle.amr_labels.specs.Map.{remove}
+use Rattle.amr_engine.specs.CachedQuiet.{times_in}
 use Rattle.amr_engine.proofs.quiet.remove_all.Given as goal
 
 -- without the groups so far, and then those that are left
 abbrev pub invariant-loop-group : goal.invariant-loop-group
-invariant-loop-group l = fold without_group (times_in l.times) (drop l.group-index l.groups) ≡ fold without_group (times_in l.fn.times) l.groups
+invariant-loop-group l = fold remove (times_in l.times) (drop l.group-index l.groups) ≡ fold remove (times_in l.fn.times) l.groups

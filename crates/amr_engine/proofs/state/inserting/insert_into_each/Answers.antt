@@ -2,7 +2,7 @@ use Rattle.std.proofs.Common.{◌∙◌, sym, ap, map, length, slice_get, Some, 
 use Rattle.std.specs.Prelude.{◌<◌}
 use Rattle.std.specs.List.{fold}
 use Rattle.std.proofs.lemmas.Option.{slice_get-get_or}
-use Rattle.amr_config.specs.declared.router.RouteGroup.{RouteGroup}
+use Rattle.amr_config.specs.declared.route_labels.RouteLabels.{RouteLabels}
 use Rattle.amr_engine.specs.State.State.{insert_into_group, insert_into_groups}
 use Rattle.amr_engine.proofs.StateLemmas.Placed.{routes_of_groups, count_of_groups, group_among}
 use Rattle.amr_engine.proofs.state.inserting.insert_into_each.Goals as goal
@@ -12,7 +12,7 @@ unfolding insert_into_groups
 loop-group-init c =
     let s = c.args.store.now.state in
     record {
-      ok = ap (λ groups. fold (insert_into_group c.args.labels.now c.args.alert.now) s (map (λ (group : RouteGroup). group.route) groups)) c.requires
+      ok = ap (λ groups. fold (insert_into_group c.args.labels.now c.args.alert.now) s (map (λ (group : RouteLabels). group.route) groups)) c.requires
           ∙ ap (fold (insert_into_group c.args.labels.now c.args.alert.now) s) (routes_of_groups s.config c.args.labels.now);
       groups = c.requires;
       count = ap length c.requires ∙ count_of_groups s.config c.args.labels.now;

@@ -1,28 +1,24 @@
 use Rattle.std.proofs.Common.{◌≡◌, ◌∙◌, sym, ap}
 use Rattle.amr_config.specs.Routing.{group_wait_of}
-use Rattle.amr_config.specs.declared.router.RouteGroup.{RouteGroup}
 use Rattle.amr_labels.specs.Map.{get}
-use Rattle.amr_engine.specs.declared.state.route_labels.RouteLabels.{RouteLabels}
-use Rattle.amr_engine.specs.State.State.{State, on_route, group_key, timer_with}
+use Rattle.amr_engine.specs.State.State.{State, timer_with}
 use Rattle.amr_engine.proofs.StateLemmas.Placed.{on_ok, placed}
 use Rattle.amr_engine.proofs.state.inserting.insert_into_group.Goals as goal
 
 pub change_timer-requires : goal.change_timer-requires
 change_timer-requires c =
-    let group : RouteLabels = on_route c.args.group.now.route c.in_ok-clone.field-0 in
+    let group = c.args.group.now in
     c.copied-before.ensures ∙ c.get.ensures ∙ ap (λ m. get m group) c.timers.ensures ∙ ap (λ (s : State). get s.timers group) (sym c.in_ok-change.ensures.ok)
 
 pub returns-clause-ok : goal.returns-clause-ok
 returns-clause-ok c =
     let s = c.args.store.now.state in
-    let route = c.args.group.now.route in
-    let group : RouteLabels = on_route route c.in_ok-clone.field-0 in
-    let grouped : group ≡ group_key s.config (on_route route c.args.labels.now) =
-    ap (on_route route) (c.in_ok-clone.ensures.cases ∙ ap (λ (g : RouteGroup). g.labels) c.requires) in
+    let group = c.args.group.now in
+    let route = group.route in
     let wait : c.group_wait-wait.result ≡ group_wait_of s.config route = c.group_wait-wait.ensures ∙ ap (λ config. group_wait_of config route) c.config.ensures in
     let found : c.copied-before.result ≡ get s.timers group = c.copied-before.ensures ∙ c.get.ensures ∙ ap (λ m. get m group) c.timers.ensures in
     let reset : c.timer_with-after.result ≡ timer_with s.moment (group_wait_of s.config route) c.args.alert.now (get s.timers group) =
     c.timer_with-after.ensures ∙ (λ i. timer_with (c.moment.ensures.value i) (wait i) c.args.alert.now (found i)) in
     on_ok c.change_timer.result _ _ (λ set. set
-    ∙ placed s c.change.new.self.state c.args.labels.now c.args.alert.now c.in_ok-clone-2.field-0 route group c.in_ok-member.member.member c.timer_with-after.result grouped c.in_ok-member.ensures.member
-    c.in_ok-clone-2.ensures.cases reset c.in_ok-change.ensures.ok) c.change_timer.ensures.ok
+    ∙ placed s c.change.new.self.state c.args.labels.now c.args.alert.now c.in_ok-clone.field-0 route group c.in_ok-member.member.member c.timer_with-after.result c.requires c.in_ok-member.ensures.member
+    c.in_ok-clone.ensures.cases reset c.in_ok-change.ensures.ok) c.change_timer.ensures.ok

@@ -4,7 +4,7 @@ use Rattle.std.specs.Option.{option_copied}
 use Rattle.amr_tables.specs.Numbered.{map_of, key_at}
 use Rattle.amr_tables.proofs.Naming.{key_at_number}
 use Rattle.amr_tables.proofs.Keying.{rank_of-total}
-use Rattle.amr_engine.specs.State.State.{route_labels_cmp, route_labels_cmp_total, route_labels_cmp-IsAntisymmetric}
+use Rattle.amr_config.specs.RouteLabels.{route_labels_cmp, route_labels_cmp_total, route_labels_cmp-IsAntisymmetric}
 use Rattle.amr_engine.specs.declared.state.pending.Pending.{Pending}
 use Rattle.amr_engine.specs.State.Dues.{due_at, dues_of}
 use Rattle.amr_engine.specs.State.Timed.{group_moment, timer_of, due_of, IsFirstOfKind}

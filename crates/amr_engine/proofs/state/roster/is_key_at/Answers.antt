@@ -7,7 +7,7 @@ use Rattle.std.proofs.lemmas.Bool.{true≢false}
 use Rattle.std.proofs.lemmas.Bool.Decides.{nat_tests}
 use Rattle.std.proofs.lemmas.Map.Views.{tells_apart}
 use Rattle.amr_labels.specs.Labels.{label_set_cmp, label_set_cmp_total, label_set_cmp-IsAntisymmetric}
-use Rattle.amr_engine.specs.declared.state.route_labels.RouteLabels.{RouteLabels}
+use Rattle.amr_config.specs.declared.route_labels.RouteLabels.{RouteLabels}
 use Rattle.amr_engine.proofs.state.roster.is_key_at.Goals as goal
 
 both : (a b : Bool) → (a && b) ≡ true → (a ≡ true) × (b ≡ true)

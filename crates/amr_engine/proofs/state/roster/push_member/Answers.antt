@@ -5,7 +5,7 @@ use Rattle.std.specs.List.{cons_option}
 use Rattle.std.proofs.lemmas.List.{append-nil}
 use Rattle.amr_labels.specs.Labels.{LabelSet}
 use Rattle.amr_rules.specs.declared.alert.Alert.{Alert}
-use Rattle.amr_engine.specs.State.State.{on_route}
+use Rattle.amr_config.specs.RouteLabels.{on_route}
 use Rattle.amr_engine.proofs.StateLemmas.Soundness.{taken}
 use Rattle.amr_engine.proofs.state.roster.push_member.Goals as goal
 

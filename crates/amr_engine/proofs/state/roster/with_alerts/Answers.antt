@@ -1,5 +1,5 @@
 use Rattle.amr_tables.specs.Numbered.{map_of}
-use Rattle.amr_engine.specs.State.State.{route_labels_cmp}
+use Rattle.amr_config.specs.RouteLabels.{route_labels_cmp}
 use Rattle.amr_engine.proofs.StateLemmas.Rostering.{member_more, numbered_among}
 use Rattle.amr_engine.proofs.state.roster.with_alerts.Goals as goal
 

@@ -1,7 +1,7 @@
 use Rattle.std.proofs.Common.{◌≡◌, ◌++◌, drop}
 use Rattle.std.specs.List.{filter_map}
 use Rattle.amr_tables.specs.Numbered.{map_of}
-use Rattle.amr_engine.specs.State.State.{route_labels_cmp}
+use Rattle.amr_config.specs.RouteLabels.{route_labels_cmp}
 use Rattle.amr_engine.specs.State.Rostered.{labels_of_numbered, with_alert}
 use Rattle.amr_engine.proofs.state.roster.with_alerts.Given as goal
 

@@ -1,4 +1,4 @@
-use Rattle.std.proofs.Common.{◌≡◌, ◌∷◌, ◌++◌, [], None, refl, sym, ap, subst, ◌∙◌}
+use Rattle.std.proofs.Common.{◌≡◌, ◌∷◌, ◌++◌, [], None, arith, refl, sym, ap, subst, ◌∙◌}
 use Rattle.std.specs.Prelude.{Result, Ok, Err, OnOk}
 use Rattle.amr_labels.specs.Labels.{LabelSet, label_set_cmp}
 use Rattle.amr_rules.specs.declared.alert.Alert.{Alert}
@@ -16,17 +16,17 @@ on_ok (Err e) P Q f p = p
 pub invariant_of-self : goal.invariant_of-self
 invariant_of-self c =
     let t = c.self.inside in
-    (alerts_same t.alerts t.removals c.self.invariant.0 t.alerts refl refl c.make_room.new.moments c.make_room.ensures.same c.make_room.ensures.more c.make_room.ensures.held c.make_room.ensures.kept, c.self.invariant.1)
+    (alerts_same t.alerts t.removals c.self.invariant.0 t.alerts refl refl c.reserve.new.self c.reserve.ensures.same c.reserve.ensures.more c.reserve.ensures.held c.reserve.ensures.kept, c.self.invariant.1)
 
 pub invariant_of-self-in_err-clone : goal.invariant_of-self-in_err-clone
 invariant_of-self-in_err-clone c =
     let t = c.self.inside in
-    (alerts_same t.alerts t.removals c.self.invariant.0 t.alerts refl refl c.make_room.new.moments c.make_room.ensures.same c.make_room.ensures.more c.make_room.ensures.held c.make_room.ensures.kept, c.self.invariant.1)
+    (alerts_same t.alerts t.removals c.self.invariant.0 t.alerts refl refl c.reserve.new.self c.reserve.ensures.same c.reserve.ensures.more c.reserve.ensures.held c.reserve.ensures.kept, c.self.invariant.1)
 
 pub invariant_of-self-in_err-add : goal.invariant_of-self-in_err-add
 invariant_of-self-in_err-add c =
     let t = c.self.inside in (
-      alerts_same t.alerts t.removals c.self.invariant.0 t.alerts refl refl c.make_room.new.moments c.make_room.ensures.same c.make_room.ensures.more c.make_room.ensures.held c.make_room.ensures.kept,
+      alerts_same t.alerts t.removals c.self.invariant.0 t.alerts refl refl c.reserve.new.self c.reserve.ensures.same c.reserve.ensures.more c.reserve.ensures.held c.reserve.ensures.kept,
       subst (AllArrived t.alerts) (sym c.in_err-add.ensures.err) c.self.invariant.1,
     )
 
@@ -38,7 +38,7 @@ invariant_of-self-in_err-number c =
     let none : number_of label_set_cmp t.alerts copy ≡ None = ap (number_of label_set_cmp t.alerts) c.in_ok-copy.ensures.cases ∙ ap (λ (v : Numbered LabelSet Alert). number_of label_set_cmp v c.args.labels.now) c.self.view_is ∙ c.requires in
     let gets = on_ok c.make_place.result _ (GetsNumber label_set_cmp t.alerts u copy (next_number t.alerts)) (λ gets. gets (unplaced label_set_cmp t.alerts copy none)) c.make_place.ensures.number in
     let added : c.add.new.self ≡ t.sources ++ copy ∷ [] = c.in_ok-add.ensures.ok ∙ ap (λ labels. t.sources ++ labels ∷ []) (c.in_ok-clone.ensures.cases ∙ sym c.in_ok-copy.ensures.cases) in (
-      alerts_same t.alerts t.removals c.self.invariant.0 u c.in_err-number.ensures.kept c.make_place.ensures.shown c.make_room.new.moments c.make_room.ensures.same c.make_room.ensures.more c.make_room.ensures.held c.make_room.ensures.kept,
+      alerts_same t.alerts t.removals c.self.invariant.0 u c.in_err-number.ensures.kept c.make_place.ensures.shown c.reserve.new.self c.reserve.ensures.same c.reserve.ensures.more c.reserve.ensures.held c.reserve.ensures.kept,
       subst (AllArrived u) (sym added) (arrived_more c.make_place.result t.alerts u t.sources copy (next_number t.alerts) gets c.make_place.ensures.err c.self.invariant.1),
     )
 
@@ -47,11 +47,11 @@ invariant_of-self-2 c =
     let t = c.self.inside in
     let u = c.make_place.new.self in
     let copy = c.in_ok-copy.copy in
-    let r = c.make_room.new.moments in
+    let r = c.reserve.new.self in
     let none : number_of label_set_cmp t.alerts copy ≡ None = ap (number_of label_set_cmp t.alerts) c.in_ok-copy.ensures.cases ∙ ap (λ (v : Numbered LabelSet Alert). number_of label_set_cmp v c.args.labels.now) c.self.view_is ∙ c.requires in
     let gets = on_ok c.make_place.result _ (GetsNumber label_set_cmp t.alerts u copy (next_number t.alerts)) (λ gets. gets (unplaced label_set_cmp t.alerts copy none)) c.make_place.ensures.number in
     let added : c.add.new.self ≡ t.sources ++ copy ∷ [] = c.in_ok-add.ensures.ok ∙ ap (λ labels. t.sources ++ labels ∷ []) (c.in_ok-clone.ensures.cases ∙ sym c.in_ok-copy.ensures.cases) in
-    let roomy : AreRemoved t.alerts r = alerts_same t.alerts t.removals c.self.invariant.0 t.alerts refl refl r c.make_room.ensures.same c.make_room.ensures.more c.make_room.ensures.held c.make_room.ensures.kept in (
-      alert_placed t.alerts r roomy u copy c.make_room.ensures.numbering c.make_place.ensures.numbering none (c.in_ok-number.ensures.number (unplaced label_set_cmp t.alerts copy none)) c.make_place.ensures.shown c.in_ok-make_room.ensures.room,
+    let roomy : AreRemoved t.alerts r = alerts_same t.alerts t.removals c.self.invariant.0 t.alerts refl refl r c.reserve.ensures.same c.reserve.ensures.more c.reserve.ensures.held c.reserve.ensures.kept in (
+      alert_placed t.alerts r roomy u copy c.count_with_next.ensures.numbering c.make_place.ensures.numbering none (c.in_ok-number.ensures.number (unplaced label_set_cmp t.alerts copy none)) c.make_place.ensures.shown (omega (arith, c.in_ok-reserve.ensures.room, c.in_ok-count.ensures.count)),
       subst (AllArrived u) (sym added) (arrived_more c.make_place.result t.alerts u t.sources copy (next_number t.alerts) gets c.make_place.ensures.err c.self.invariant.1),
     )

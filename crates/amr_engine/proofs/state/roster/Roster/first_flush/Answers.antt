@@ -2,7 +2,7 @@ use Rattle.std.proofs.Common.{subst}
 use Rattle.std.specs.Prelude.{option_map}
 use Rattle.amr_tables.specs.Numbered.{map_of}
 use Rattle.amr_engine.specs.declared.state.due.Kind.TheVariants.{GroupFlush}
-use Rattle.amr_engine.specs.State.State.{route_labels_cmp}
+use Rattle.amr_config.specs.RouteLabels.{route_labels_cmp}
 use Rattle.amr_engine.specs.State.Dues.{dues_of}
 use Rattle.amr_engine.specs.State.Timed.{due_of, IsFirstOfKind}
 use Rattle.amr_engine.specs.State.Rostered.{Rostered}

@@ -2,7 +2,7 @@ use Rattle.std.proofs.Common.{◌≡◌, Some, sym, ap, ◌∙◌}
 use Rattle.amr_labels.specs.Map.{get}
 use Rattle.amr_tables.specs.Numbered.{map_of, number_of}
 use Rattle.amr_tables.proofs.Keying.{rank_of-total}
-use Rattle.amr_engine.specs.State.State.{route_labels_cmp, route_labels_cmp_total, route_labels_cmp-IsAntisymmetric}
+use Rattle.amr_config.specs.RouteLabels.{route_labels_cmp, route_labels_cmp_total, route_labels_cmp-IsAntisymmetric}
 use Rattle.amr_engine.specs.State.Rostered.{Rostered}
 use Rattle.amr_engine.specs.State.Timed.{flush_moment}
 use Rattle.amr_engine.proofs.StateLemmas.Scheduling.{number_of_first}

@@ -4,7 +4,7 @@ use Rattle.std.specs.Borrow.{Bor}
 use Rattle.amr_labels.specs.Labels.{LabelSet}
 use Rattle.amr_rules.specs.declared.alert.Alert.{Alert}
 use Rattle.amr_tables.specs.Numbered.{map_of}
-use Rattle.amr_engine.specs.State.State.{route_labels_cmp}
+use Rattle.amr_config.specs.RouteLabels.{route_labels_cmp}
 use Rattle.amr_engine.specs.State.Rostered.{Rostered, labels_of_numbered, numbered_labels, with_alert, IsNumbered}
 use Rattle.amr_engine.proofs.StateLemmas.Rostering.{members_are}
 use Rattle.amr_engine.proofs.state.roster.Roster.members_of.Goals as goal

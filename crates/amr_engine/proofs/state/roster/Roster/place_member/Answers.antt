@@ -1,7 +1,7 @@
 use Rattle.std.proofs.Common.{IsTrue, subst, sym}
 use Rattle.std.specs.Prelude.{Result, Ok, Err, OnOk}
 use Rattle.amr_tables.specs.Numbered.{has_place}
-use Rattle.amr_engine.specs.State.State.{route_labels_cmp}
+use Rattle.amr_config.specs.RouteLabels.{route_labels_cmp}
 use Rattle.amr_engine.proofs.StateLemmas.Rostering.{number_place}
 use Rattle.amr_engine.proofs.state.roster.Roster.place_member.Goals as goal
 

@@ -7,7 +7,8 @@ use Rattle.std.specs.Prelude.{IfSome, slice_set, option_map}
 use Rattle.std.specs.Ordering.{eq_by_cmp}
 use Rattle.amr_labels.specs.Map as map
 use Rattle.amr_tables.specs.Numbered.{map_of, has_place, is_entered, number_of}
-use Rattle.amr_engine.specs.State.State.{member_on_route, route_labels_cmp, group_key}
+use Rattle.amr_config.specs.RouteLabels.{route_labels_cmp}
+use Rattle.amr_engine.specs.State.State.{member_on_route, group_key}
 use Rattle.amr_engine.specs.State.Rostered.{Rostered}
 use Rattle.amr_engine.proofs.StateLemmas.Rostering.{grouped_set, grouped_stays, place_number, within_if}
 use Rattle.amr_engine.proofs.state.roster.Roster.swap_member.Goals as goal

@@ -1,11 +1,12 @@
-use Rattle.std.proofs.Common.{◌≡◌, ◌||◌, Some, ap, ◌∙◌}
+use Rattle.std.proofs.Common.{◌≡◌, ◌||◌, Some, length, refl, ap, ◌∙◌}
+use Rattle.std.proofs.Math.Nat.{le_refl}
 use Rattle.std.specs.Prelude.{slice_set}
 use Rattle.std.specs.Ordering.{eq_by_cmp}
 use Rattle.amr_labels.specs.Map as map
 use Rattle.amr_tables.specs.Numbered.{map_of, number_of, has_place, is_entered}
 use Rattle.amr_engine.specs.State.Rostered.{Rostered}
-use Rattle.amr_engine.specs.State.State.{route_labels_cmp}
-use Rattle.amr_engine.proofs.StateLemmas.Rostering.{grouped_timed}
+use Rattle.amr_config.specs.RouteLabels.{route_labels_cmp}
+use Rattle.amr_engine.proofs.StateLemmas.Rostering.{grouped_same}
 use Rattle.amr_engine.proofs.StateLemmas.Scheduling.{timer_set, ranked}
 use Rattle.amr_engine.proofs.state.roster.Roster.swap_timer.Goals as goal
 
@@ -34,7 +35,7 @@ invariant_of-self c =
     let group = c.requires.0 in
     let n = c.args.number in
     let number : number_of route_labels_cmp t.timers group ≡ Some n = ap (λ (v : Rostered). number_of route_labels_cmp v.timers group) c.self.view_is ∙ c.requires.1 in (
-      grouped_timed t.config t.placements t.timers t.members c.self.invariant.0 c.swap_at-was_entered.new.self group n c.args.timer.now number c.swap_at-was_entered.ensures.keys (c.swap_at-was_entered.ensures.shown group number),
+      grouped_same t.config t.placements t.timers t.members c.self.invariant.0 t.placements c.swap_at-was_entered.new.self t.members refl refl c.swap_at-was_entered.ensures.keys (λ n. refl) (le_refl (length t.members.groups)) (le_refl t.members.count),
       timer_set t.timers t.removals t.flushes c.self.invariant.1 c.swap_at-was_entered.new.self c.set-2.new.self c.set.new.self group n c.args.timer.now number c.swap_at-was_entered.ensures.keys (c.swap_at-was_entered.ensures.shown group number)
           (c.set-2.ensures.moments ∙ ap (slice_set t.removals.moments n) c.removal_moment-removal.ensures) c.set-2.ensures.held c.set-2.ensures.kept
           (c.set.ensures.moments ∙ ap (slice_set t.flushes.moments n) c.flush_moment-flush.ensures) c.set.ensures.held c.set.ensures.kept,

@@ -3,7 +3,7 @@ use Rattle.amr_labels.specs.Map as map
 use Rattle.amr_tables.specs.Numbered.{map_of}
 use Rattle.amr_engine.specs.State.Kept.{Kept}
 use Rattle.std.specs.List.{fold}
-use Rattle.amr_engine.specs.State.State.{route_labels_cmp, route_labels_cmp_total, route_labels_cmp-IsAntisymmetric}
+use Rattle.amr_config.specs.RouteLabels.{route_labels_cmp, route_labels_cmp_total, route_labels_cmp-IsAntisymmetric}
 use Rattle.amr_engine.proofs.StateLemmas.Emptied.{removed_all}
 use Rattle.amr_engine.proofs.state.store.Store.clear_timers.Goals as goal
 

@@ -2,7 +2,7 @@ use Rattle.std.proofs.Common.{◌≡◌, true, Some, sym, ap, subst, ◌∙◌}
 use Rattle.amr_tables.specs.Numbered.{number_of}
 use Rattle.amr_engine.specs.declared.state.change.Change.{Change}
 use Rattle.amr_engine.specs.declared.state.change.Change.TheVariants.{OfTimer}
-use Rattle.amr_engine.specs.State.State.{route_labels_cmp}
+use Rattle.amr_config.specs.RouteLabels.{route_labels_cmp}
 use Rattle.amr_engine.specs.State.Kept.{before_open_record}
 use Rattle.amr_engine.specs.declared.state.store.Store.TheInside.{Inside}
 use Rattle.amr_engine.proofs.StateLemmas.Soundness.{kept_reserved, kept_changed, undone_reserved, undone_changed}

@@ -7,7 +7,8 @@ use Rattle.amr_labels.specs.Labels.{label_set_cmp, label_set_cmp_total}
 use Rattle.amr_tables.specs.Numbered.{Numbered, number_of, is_entered, EntersAt}
 use Rattle.amr_engine.specs.declared.state.change.Change.TheVariants.{OfLog}
 use Rattle.amr_engine.specs.declared.state.tables.Tables.{Tables}
-use Rattle.amr_engine.specs.State.State.{member_on_route, route_labels_cmp, route_labels_cmp_total, log_key_cmp, log_key_cmp_total}
+use Rattle.amr_config.specs.RouteLabels.{route_labels_cmp, route_labels_cmp_total}
+use Rattle.amr_engine.specs.State.State.{member_on_route, log_key_cmp, log_key_cmp_total}
 use Rattle.amr_engine.specs.State.Records.{after_change, change_back}
 use Rattle.amr_engine.specs.State.Fitting.{is_config}
 use Rattle.amr_engine.specs.State.Stored.{shown_by, IsPlaceOf, is_marked_at}

@@ -1,7 +1,8 @@
 use Rattle.std.proofs.Common.{sym, ap, subst, ◌∙◌}
 use Rattle.std.specs.Ordering.{nat_cmp}
 use Rattle.amr_tables.specs.Numbered.{number_of}
-use Rattle.amr_engine.specs.State.State.{route_labels_cmp, member_on_route}
+use Rattle.amr_config.specs.RouteLabels.{route_labels_cmp}
+use Rattle.amr_engine.specs.State.State.{member_on_route}
 use Rattle.amr_engine.specs.State.Stored.{IsSound, IsPlaceOf}
 use Rattle.amr_engine.proofs.state.tables.Tables.find.Goals as goal
 

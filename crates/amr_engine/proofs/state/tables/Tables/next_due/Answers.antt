@@ -2,7 +2,7 @@ use Rattle.std.proofs.Common.{◌≡◌, IfOk, sym, ap, subst, ◌∙◌}
 use Rattle.std.specs.Prelude.{option_map}
 use Rattle.amr_labels.specs.Labels.{label_set_cmp}
 use Rattle.amr_tables.specs.Numbered.{map_of}
-use Rattle.amr_engine.specs.State.State.{route_labels_cmp}
+use Rattle.amr_config.specs.RouteLabels.{route_labels_cmp}
 use Rattle.amr_engine.specs.State.Dues.{dues_of, least_due, due_by}
 use Rattle.amr_engine.specs.State.Timed.{due_of, earlier}
 use Rattle.amr_engine.proofs.StateLemmas.Least.{first_of_kinds}

@@ -1,12 +1,10 @@
-//! Routes with label sets: the keys of the tables of members and of group timers.
+//! Routes with label sets: the groups that a label set is in, and the keys of tables of groups and
+//! of their members.
+ghost use Rattle.std.specs.Prelude.{◌≡◌};
 
-ghost use Rattle.std.specs.Prelude.{◌≡◌, IfOk};
-ghost use Rattle.amr_engine.specs.State.State.{on_route, group_key};
-
-use amr_config::Config;
 use amr_labels::{Exact, Labels};
 use amr_tables::Key;
-use std::alloc::{AllocError, Global};
+use std::alloc::AllocError;
 
 /// A route with a label set: an alert on a route, or a group's key.
 #[derive(PartialEq, Eq, PartialOrd, Ord, Hash, Drop)]
@@ -29,24 +27,11 @@ impl Clone for RouteLabels {
 }
 
 impl Key for RouteLabels {
-    ghost use Rattle.amr_engine.specs.State.State.{route_labels_cmp-IsAntisymmetric};
+    ghost use Rattle.amr_config.specs.RouteLabels.{route_labels_cmp-IsAntisymmetric};
 
     ghost exact = { route_labels_cmp-IsAntisymmetric };
 }
 
 impl Exact for RouteLabels {
     ghost exact = { λ x y same. same };
-}
-
-/// Returns the group of an alert on a route.
-pub fn group_key(
-    alloc: Global,
-    config: &Config,
-    route: usize,
-    labels: &Labels,
-) -> Result<RouteLabels, AllocError>
-    ensures { IfOk result (λ group. group ≡ group_key config.now (on_route route labels.now)) }
-{
-    let labels = config.group_of(alloc, route, labels)?;
-    Ok(RouteLabels { route, labels })
 }
