@@ -1,6 +1,6 @@
 //! The stages of a flush that mute alerts, in the order of Alertmanager's notification pipeline. A
 //! flush notifies of no member that one of them mutes, and `explain` names the first that does.
-ghost use Rattle.std.specs.Prelude.{◌≡◌, map, IfOk};
+ghost use Rattle.std.specs.Prelude.{◌≡◌, IfOk};
 ghost use Rattle.amr_rules.specs.Muting.{inhibition_from};
 ghost use Rattle.amr_engine.specs.Flush.{let_through};
 ghost use Rattle.amr_engine.specs.Stages.{taken_away};
@@ -10,7 +10,7 @@ use crate::verdict::Finding;
 use amr_labels::Labels;
 use amr_rules::inhibited_by;
 use amr_time::Moment;
-use std::alloc::{AllocError, Global};
+use std::alloc::AllocError;
 
 /// Returns the first stage that mutes an alert with these labels on a route: inhibition, active
 /// time intervals, mute time intervals, silences. Returns `None` if none does.
@@ -53,38 +53,14 @@ pub(crate) fn let_through(
     ensures same { store.new ≡ store.old }
 {
     let mut through = Vec::with_capacity(store.alloc(), members.len())?;
-    cache_silences(store, at, members)?;
     for (labels, alert) in members {
+        store.cache_silences(at, labels);
         cache_sources(store, labels)?;
         if taken_away(store, at, route, labels)?.is_none() {
             through.push((labels.clone()?, alert.clone()?))?;
         }
     }
     Ok(through)
-}
-
-/// Works out which silences match the labels of members, where that isn't cached. Without silences
-/// it copies no labels.
-fn cache_silences(store: &mut Store, at: Moment, members: &[Member]) -> Result<(), AllocError>
-    ensures { store.new ≡ store.old }
-{
-    if store.silences().values().next().is_none() {
-        return Ok(());
-    }
-    let label_sets = label_sets_of(store.alloc(), members)?;
-    store.cache_silences(at, label_sets.as_slice());
-    Ok(())
-}
-
-/// Returns the label sets of members.
-fn label_sets_of(alloc: Global, members: &[Member]) -> Result<Vec<Labels>, AllocError>
-    ensures { IfOk result (λ found. found.items ≡ map (λ member. member.0) members.now) }
-{
-    let mut label_sets = Vec::with_capacity(alloc, members.len())?;
-    for (labels, _) in members {
-        label_sets.push(labels.clone()?)?;
-    }
-    Ok(label_sets)
 }
 
 /// Works out which label sets can be sources of the rules that have these labels as a target, where

@@ -1,6 +1,6 @@
 //! The silences by id, with what is cached of the label sets that flushes asked about: the periods
 //! of the silences that match them. `store.rt` changes the table and asks it which silence mutes.
-ghost use Rattle.std.specs.Prelude.{◌≡◌, ◌<◌, ◌≤◌, [], Some, is_some, OnOk, IfOk, IfSome};
+ghost use Rattle.std.specs.Prelude.{◌≡◌, ◌≤◌, [], Some, is_some, OnOk, IfOk, IfSome};
 ghost use Rattle.std.specs.Ordering.{nat_cmp};
 ghost use Rattle.amr_labels.specs.Labels.{label_set_cmp};
 ghost use Rattle.amr_labels.specs.Map as map;
@@ -27,13 +27,10 @@ use std::marker::Model;
 /// answers take.
 const MOST_AT_ONCE: usize = 1024;
 
-/// How many label sets the silences are asked for at once at least. For fewer, cached answers are
-/// faster than preparing the search of each pattern.
-const FEWEST_AT_ONCE: usize = 4;
-
-/// How many label sets have to have arrived, at least, for the silences to be asked ahead for them.
-/// If alerts come one by one, most values were met before, and their answers are cached.
-const FEWEST_AHEAD: usize = 64;
+/// How many label sets the silences are asked for at once at least. Fewer are left to be asked for
+/// one by one: if most of their values were met before, cached answers are faster than preparing the
+/// search of each pattern.
+const FEWEST_AT_ONCE: usize = 8;
 
 /// How many changes of silences are kept at most. When one more comes, all that is cached of label
 /// sets is forgotten.
@@ -53,6 +50,8 @@ pub struct SilenceTable {
     changes: Vec<SilenceChange>,
     /// The number of label sets, in the order of arrival, that the silences were asked ahead for.
     asked_ahead: usize,
+    /// The moment at which they were last asked ahead.
+    asked_at: Moment,
     /// The silences that are left to ask, if they were listed since the last change.
     unexpired: Option<Unexpired>,
 }
@@ -103,6 +102,7 @@ impl SilenceTable {
             cached: Keyed::new(alloc),
             changes: Vec::new(alloc),
             asked_ahead: 0,
+            asked_at: Moment::START,
             unexpired: None,
         }
     }
@@ -128,15 +128,15 @@ impl SilenceTable {
         }
     }
 
-    /// Works out when silences that match these label sets are active from a moment on, and caches
-    /// it. Skips label sets that are cached, and does nothing if no silence is stored. If some
-    /// aren't cached and many arrived, it first asks for those that arrived, which the next flushes
-    /// most likely meet: the search of each pattern is then prepared once for all. If there is no
-    /// room, it forgets what it caches of label sets.
-    pub fn cache(&mut self, at: Moment, label_sets: &[Labels], arrived: &[Labels])
+    /// Works out when silences that match a label set are active from a moment on, and caches it. It
+    /// does nothing if that is cached or no silence is stored. If it isn't and many label sets
+    /// arrived, it first asks for those that arrived, which the next flushes most likely meet: the
+    /// search of each pattern is then prepared once for all. If there is no room, it forgets what it
+    /// caches of label sets.
+    pub fn cache(&mut self, at: Moment, labels: &Labels, arrived: &[Labels])
         ensures { self.new ≡ self.old }
     {
-        if self.cache_missing(at, label_sets, arrived).is_err() {
+        if self.cache_missing(at, labels, arrived).is_err() {
             self.forget();
         }
     }
@@ -153,51 +153,56 @@ impl SilenceTable {
         );
     }
 
-    /// Works out when silences that match those of these label sets are active of which nothing is
-    /// cached, and caches it. It may do so for others that arrived.
+    /// Works out when silences that match a label set are active, and caches it, if it isn't cached.
+    /// It may do so for others that arrived.
     fn cache_missing(
         &mut self,
         at: Moment,
-        label_sets: &[Labels],
+        labels: &Labels,
         arrived: &[Labels],
     ) -> Result<(), AllocError>
         ensures { self.new ≡ self.old }
     {
-        if self.silences.values().next().is_none() {
+        if self.silences.values().next().is_none() || self.is_cached(at, labels)? {
             return Ok(());
         }
-        let missing = self.missing(at, label_sets)?;
-        let ahead = arrived.len().saturating_sub(self.asked_ahead);
-        if missing.is_empty() || ahead < FEWEST_AHEAD {
-            return self.cache_all(at, missing.as_slice());
+        let start = self.first_not_asked(at);
+        if arrived.len().saturating_sub(start) >= FEWEST_AT_ONCE {
+            self.ask_ahead(at, start, arrived)?;
+            if self.is_cached(at, labels)? {
+                return Ok(());
+            }
         }
-        self.ask_ahead(at, arrived)?;
-        let missing = self.missing(at, missing.as_slice())?;
-        self.cache_all(at, missing.as_slice())
+        self.cache_one(at, labels)
     }
 
-    /// Works out the same for the next label sets that arrived.
-    fn ask_ahead(&mut self, at: Moment, arrived: &[Labels]) -> Result<(), AllocError>
+    /// Returns the number of the first label set, in the order of arrival, that the silences weren't
+    /// asked ahead for. If a session went back, that is the first of all, since what was cached after
+    /// a moment may lack silences of the moment.
+    fn first_not_asked(&self, at: Moment) -> usize {
+        if at < self.asked_at {
+            0
+        } else {
+            self.asked_ahead
+        }
+    }
+
+    /// Works out the same for the label sets that arrived from this one on, up to as many as are asked
+    /// for at once, unless few of them are missing.
+    fn ask_ahead(&mut self, at: Moment, start: usize, arrived: &[Labels]) -> Result<(), AllocError>
         ensures { self.new ≡ self.old }
     {
-        let start = self.asked_ahead;
         let end = arrived.len().min(start.saturating_add(MOST_AT_ONCE));
         if end <= start {
             return Ok(());
         }
         self.asked_ahead = end;
+        self.asked_at = at;
         let missing = self.missing(at, &arrived[start..end])?;
-        self.cache_all(at, missing.as_slice())
-    }
-
-    /// Works out when silences that match these label sets are active, and caches it.
-    fn cache_all(&mut self, at: Moment, label_sets: &[Labels]) -> Result<(), AllocError>
-        ensures { self.new ≡ self.old }
-    {
-        for some in label_sets.chunks(MOST_AT_ONCE) {
-            self.cache_some(at, some)?;
+        if missing.len() < FEWEST_AT_ONCE {
+            return Ok(());
         }
-        Ok(())
+        self.cache_many(at, missing.as_slice())
     }
 
     /// Returns those of the label sets of which nothing is cached at a moment.
@@ -244,15 +249,27 @@ impl SilenceTable {
         Ok(true)
     }
 
-    /// Works out when silences that match these label sets are active, and caches it. It asks
-    /// only silences that aren't expired, and keeps the list of them until a silence changes.
-    fn cache_some(&mut self, at: Moment, label_sets: &[Labels]) -> Result<(), AllocError>
+    /// Works out when silences that match a label set are active, and caches it. It asks only
+    /// silences that aren't expired, keeps the list of them until a silence changes, and caches the
+    /// answers of patterns.
+    fn cache_one(&mut self, at: Moment, labels: &Labels) -> Result<(), AllocError>
         ensures { self.new ≡ self.old }
     {
         let kept = self.unexpired_at(at)?;
-        let filled = self.cache_from(at, label_sets, kept.listed.as_slice(), kept.from);
+        let listed = kept.listed.as_slice();
+        let periods = silence_periods(self.alloc, &mut self.answers, listed, at, labels);
         self.unexpired = Some(kept);
-        filled
+        self.insert(at, labels, periods?)
+    }
+
+    /// Works out the same for many label sets. It prepares one search of each pattern for all.
+    fn cache_many(&mut self, at: Moment, label_sets: &[Labels]) -> Result<(), AllocError>
+        ensures { self.new ≡ self.old }
+    {
+        let kept = self.unexpired_at(at)?;
+        let rows = silence_rows(self.alloc, kept.listed.as_slice(), at, label_sets);
+        self.unexpired = Some(kept);
+        self.cache_rows(at, label_sets, rows?.as_slice())
     }
 
     /// Takes the list of the silences that aren't expired at a moment or weren't before. It makes a
@@ -272,26 +289,6 @@ impl SilenceTable {
         }
     }
 
-    /// Works out when those of these silences that match the label sets are active, and caches
-    /// it. No other silence is unexpired.
-    fn cache_from(
-        &mut self,
-        at: Moment,
-        label_sets: &[Labels],
-        listed: &[(SilenceId, Silence)],
-        from: Moment,
-    ) -> Result<(), AllocError>
-        requires before { from ≤ at }
-        requires listed { listed.now ≡ unexpired_silences from (map_of nat_cmp self.old) }
-        ensures { self.new ≡ self.old }
-    {
-        if label_sets.len() < FEWEST_AT_ONCE {
-            return self.cache_one_by_one(at, label_sets, listed, from);
-        }
-        let rows = silence_rows(self.alloc, listed, at, label_sets)?;
-        self.cache_rows(at, label_sets, rows.as_slice())
-    }
-
     /// Caches the silences that rows list for each of these label sets.
     fn cache_rows(
         &mut self,
@@ -304,26 +301,6 @@ impl SilenceTable {
     {
         for (index, labels) in label_sets.iter().enumerate() {
             let periods = periods_at(self.alloc, rows, index)?;
-            self.insert(at, labels, periods)?;
-        }
-        Ok(())
-    }
-
-    /// Asks these silences for each of these label sets, and caches the answers of patterns. No
-    /// other silence is unexpired.
-    fn cache_one_by_one(
-        &mut self,
-        at: Moment,
-        label_sets: &[Labels],
-        listed: &[(SilenceId, Silence)],
-        from: Moment,
-    ) -> Result<(), AllocError>
-        requires before { from ≤ at }
-        requires listed { listed.now ≡ unexpired_silences from (map_of nat_cmp self.old) }
-        ensures { self.new ≡ self.old }
-    {
-        for labels in label_sets {
-            let periods = silence_periods(self.alloc, &mut self.answers, listed, at, labels)?;
             self.insert(at, labels, periods)?;
         }
         Ok(())

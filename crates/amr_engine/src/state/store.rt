@@ -234,14 +234,14 @@ impl Store {
         self.tables.silences.silenced_by(at, labels)
     }
 
-    /// Works out when silences that match these label sets are active, so that `silenced_by`
-    /// needn't ask their matchers at this moment or later. It does so once for each label set until
-    /// a silence changes. It may do so for others that have a place, too.
-    pub fn cache_silences(&mut self, at: Moment, label_sets: &[Labels])
+    /// Works out when silences that match a label set are active, so that `silenced_by` needn't ask
+    /// their matchers at this moment or later. It does so once for each label set until a silence
+    /// changes. It may do so for others that have a place, too.
+    pub fn cache_silences(&mut self, at: Moment, labels: &Labels)
         ensures { self.new ≡ self.old }
     {
         let arrived = self.tables.alerts.arrived();
-        self.tables.silences.cache(at, label_sets, arrived);
+        self.tables.silences.cache(at, labels, arrived);
     }
 
     /// Works out which label sets can be sources of the inhibition rules that have a label set as a
