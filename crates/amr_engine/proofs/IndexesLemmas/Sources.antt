@@ -1,6 +1,6 @@
 -- What the sides of inhibition rules list, and how they take in label sets.
 use Rattle.std.proofs.Common.{◌≡◌, ℕ, ◌+◌, ◌<◌, ◌≤◌, Bool, true, false, cond, ◌||◌, ◌&&◌, T, List, [], ◌∷◌, Option, Some, None, map, length, take, refl, sym, ap, ◌∙◌, IsTrue, is_some, arith}
-use Rattle.std.specs.Prelude.{Result, Ok, Err, OnOk, OnErr, option_map, unwrap_or}
+use Rattle.std.specs.Prelude.{◌==◌, bit_or, Result, Ok, Err, OnOk, OnErr, option_map, unwrap_or}
 use Rattle.std.proofs.Math.ListN.{get_or}
 use Rattle.std.specs.List.{cons_option, filter_map}
 use Rattle.std.specs.declared.cmp.Ordering.{Ordering}
@@ -10,13 +10,16 @@ use Rattle.std.specs.Cmp.{eq_by_cmp_equiv}
 use Rattle.std.specs.FinMap.{find, is_sorted}
 use Rattle.std.specs.FinMap.Entries.{below_all, find-where_key, is_sorted-where_key, same_entries}
 use Rattle.std.proofs.lemmas.Bool.{true≢false}
-use Rattle.std.proofs.lemmas.List.{take_all, nil_from_length}
+use Rattle.std.proofs.lemmas.Bool.Decides.{nat_tests}
+use Rattle.std.proofs.lemmas.List.{take_all, nil_from_length, get_or-map}
 use Rattle.std.proofs.lemmas.List.Folds.{list_any_more}
 use Rattle.std.proofs.lemmas.Map.Views.{tells_apart}
 use Rattle.amr_labels.specs.Map.{get, set, insert, empty, entries, from_sorted, if_sorted, get-empty, get-insert, get-set, get-entries, entries-sorted}
 use Rattle.amr_labels.specs.Set.{Set, contains, items}
 use Rattle.amr_labels.specs.Labels.{Text, text_cmp, LabelSet, label_set_cmp, label_set_cmp_total, label_set_cmp-IsAntisymmetric, value_of}
-use Rattle.amr_labels.specs.Matcher.Matchers.{all_hold}
+use Rattle.amr_labels.specs.Matcher.Matchers.{Matcher, all_hold}
+use Rattle.amr_labels.specs.Matcher.ValueBits.{value_bits, required_bits}
+use Rattle.amr_labels.proofs.MatcherLemmas.ValueBits.{matching_marked}
 use Rattle.amr_config.specs.declared.stated.rule.InhibitRule.{InhibitRule}
 use Rattle.amr_rules.specs.declared.alert.Alert.{Alert}
 use Rattle.amr_rules.specs.Muting.{Alerts, agree_on, sources_of}
@@ -25,7 +28,7 @@ use Rattle.amr_tables.specs.Members.{has}
 use Rattle.amr_engine.specs.declared.indexes.rule_source.SourceSide.{SourceSide}
 use Rattle.amr_engine.specs.declared.indexes.rule_source.CachedSide.{CachedSide}
 use Rattle.amr_engine.specs.Indexes.LabelValues.{values_cmp, values_cmp_total, values_cmp-IsAntisymmetric, label_values}
-use Rattle.amr_engine.specs.Indexes.RuleSources.{ByValues, is_in, is_under, is_source, ListsSide, IsSideOf, IsPut, IsListedToo, ListsSame, ListsAgreeing, stored_of}
+use Rattle.amr_engine.specs.Indexes.RuleSources.{ByValues, bits_of, is_in, is_under, is_source, ListsSide, IsSideOf, IsPut, IsListedToo, ListsSame, ListsAgreeing, stored_of}
 
 eq_then : (a b : Ordering) → is_eq (ordering_then a b) ≡ (is_eq a && is_eq b)
 eq_then Less b = refl
@@ -44,6 +47,20 @@ both false b p q = absurd p
 parts : (a b : Bool) → T (a && b) → T a × T b
 parts true b h = (tt, h)
 parts false b h = absurd h
+
+-- ---- a label set without the bits that matchers ask for doesn't match them
+
+lacking : (bits required : ℕ) → bit_or bits required ≡ bits → (bit_or bits required == bits) ≡ false → ⊥
+lacking bits required same lacks = grind (arith, nat_tests)
+
+pub unmatched : (arrived : List LabelSet) (bits : List ℕ) (n required : ℕ) (labels : LabelSet) (matchers : List Matcher) → bits ≡ bits_of arrived → n < length arrived → labels ≡ get_or arrived n labels
+    → required ≡ required_bits matchers → (bit_or (get_or bits n 0) required == get_or bits n 0) ≡ false → all_hold matchers labels ≡ false
+unmatched arrived bits n required labels matchers is lt at asked lacks =
+    let own : get_or bits n 0 ≡ value_bits labels = ap (λ bs. get_or bs n 0) is ∙ get_or-map value_bits arrived n labels 0 lt ∙ ap value_bits (sym at) in
+    elim (all_hold matchers labels) as (λ b. all_hold matchers labels ≡ b → b ≡ false) [
+      | true ↦ λ all. absurd (lacking (get_or bits n 0) required ((λ i. bit_or (own i) (asked i)) ∙ matching_marked labels matchers all ∙ sym own) lacks)
+      | false ↦ λ _. refl
+    ] refl
 
 -- ---- a label set is listed under values
 

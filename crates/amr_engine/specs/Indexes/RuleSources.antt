@@ -1,5 +1,5 @@
 -- The label sets that can be sources of inhibition rules, as the table of alerts lists them.
-use Rattle.std.specs.Prelude.{◌≡◌, ◌≤◌, Bool, false, ◌&&◌, ◌||◌, List, map, length, take, Option, option_map, IsTrue}
+use Rattle.std.specs.Prelude.{◌≡◌, ◌≤◌, ℕ, Bool, false, ◌&&◌, ◌||◌, List, map, length, take, Option, option_map, IsTrue}
 use Rattle.std.specs.List.{filter_map}
 use Rattle.std.specs.Borrow.{Bor}
 use Rattle.std.specs.Map.Iter.{deref_pair}
@@ -9,6 +9,7 @@ use Rattle.amr_labels.specs.Map.{get}
 use Rattle.amr_labels.specs.Set.{Set, contains}
 use Rattle.amr_labels.specs.Labels.{Text, LabelSet, label_set_cmp}
 use Rattle.amr_labels.specs.Matcher.Matchers.{all_hold}
+use Rattle.amr_labels.specs.Matcher.ValueBits.{value_bits}
 use Rattle.amr_config.specs.declared.stated.rule.InhibitRule.{InhibitRule}
 use Rattle.amr_rules.specs.declared.alert.Alert.{Alert}
 use Rattle.amr_rules.specs.Muting.{Alerts, agree_on}
@@ -17,6 +18,10 @@ use Rattle.amr_tables.specs.Members.{has}
 use Rattle.amr_engine.specs.declared.indexes.rule_source.SourceSide.{SourceSide}
 use Rattle.amr_engine.specs.declared.indexes.rule_source.CachedSide.{CachedSide}
 use Rattle.amr_engine.specs.Indexes.LabelValues.{values_cmp, label_values}
+
+-- the bits of the values of each of these label sets
+abbrev pub bits_of : List LabelSet → List ℕ
+bits_of = map value_bits
 
 -- label sets under values of labels
 abbrev pub ByValues : Type 0

@@ -1,13 +1,15 @@
 //! The label sets that can be the sources of inhibition rules. `alert_table.rt` keeps them, so that
 //! inhibition looks only at the alerts that match a rule's source matchers and agree with the
 //! target on the labels in `equal`. Which of them mutes the target is decided in `amr_rules`.
-ghost use Rattle.std.specs.Prelude.{◌≡◌, ◌<◌, ◌+◌, ◌++◌, ◌∷◌, ◌↔◌, [], length, IsTrue, IfOk, IfSome, OnOk, OnErr};
+ghost use Rattle.std.specs.Prelude.{◌≡◌, ◌<◌, ◌+◌, ◌++◌, ◌∷◌, ◌↔◌, ◌==◌, [], false, length, bit_or, IsTrue, IfOk, IfSome, OnOk, OnErr};
 ghost use Rattle.std.specs.Option.{option_copied};
-ghost use Rattle.amr_engine.specs.Indexes.RuleSources.{ListsSide, ListsAgreeing, IsSideOf, IsPut, IsListedToo, ListsSame};
+ghost use Rattle.amr_labels.specs.Matcher.Matchers.{all_hold};
+ghost use Rattle.amr_labels.specs.Matcher.ValueBits.{required_bits};
+ghost use Rattle.amr_engine.specs.Indexes.RuleSources.{bits_of, ListsSide, ListsAgreeing, IsSideOf, IsPut, IsListedToo, ListsSame};
 
 use crate::indexes::label_values::LabelValues;
 use amr_config::stated::InhibitRule;
-use amr_labels::matcher::{MatchCache, Matchers};
+use amr_labels::matcher::{MatchCache, Matchers, required_bits, value_bits};
 use amr_labels::{LabelMap, Labels, Text};
 use amr_tables::Keyed;
 use std::alloc::{AllocError, Global};
@@ -56,6 +58,9 @@ pub(crate) struct RuleSources {
     alloc: Global,
     answers: MatchCache,
     arrived: Vec<Labels>,
+    /// The bits of the values of each of them, which show at once of most that a side doesn't match
+    /// them.
+    bits: Vec<u64>,
     numbers: BTreeMap<SourceSide, usize>,
     sides: Vec<CachedSide>,
     /// The side of each rule that was filled in this event, by the rule's index in the
@@ -66,12 +71,12 @@ pub(crate) struct RuleSources {
 }
 
 impl Model for RuleSources {
-    ghost use Rattle.std.specs.Prelude.{List};
+    ghost use Rattle.std.specs.Prelude.{◌≡◌, List};
     ghost use Rattle.std.specs.List.{All};
     ghost use Rattle.std.specs.Coded.{codes};
     ghost use Rattle.amr_labels.specs.Map as map;
     ghost use Rattle.amr_labels.specs.Labels.{LabelSet};
-    ghost use Rattle.amr_engine.specs.Indexes.RuleSources.{ListsSide};
+    ghost use Rattle.amr_engine.specs.Indexes.RuleSources.{ListsSide, bits_of};
 
     ghost Value = { List LabelSet };
 
@@ -79,7 +84,8 @@ impl Model for RuleSources {
 
     ghost view = { λ s. s.arrived.items };
 
-    ghost invariant = { λ s. All (ListsSide s.arrived.items) s.sides.items };
+    ghost invariant = { λ s. All (ListsSide s.arrived.items) s.sides.items
+        × (s.bits.items ≡ bits_of s.arrived.items) };
 }
 
 impl RuleSources {
@@ -91,6 +97,7 @@ impl RuleSources {
             alloc,
             answers: MatchCache::new(alloc),
             arrived: Vec::new(alloc),
+            bits: Vec::new(alloc),
             numbers: BTreeMap::new(alloc),
             sides: Vec::new(alloc),
             filled: Vec::new(alloc),
@@ -103,7 +110,10 @@ impl RuleSources {
         ensures ok { OnOk result (self.new ≡ self.old ++ labels ∷ []) }
         ensures err { OnErr result (self.new ≡ self.old) }
     {
+        let bits = value_bits(&labels);
+        self.bits.reserve(1)?;
         self.arrived.push(labels)?;
+        self.bits.push_reserved(bits);
         Ok(())
     }
 
@@ -216,6 +226,7 @@ impl RuleSources {
                 &mut self.answers,
                 &mut self.sides[number],
                 self.arrived.as_slice(),
+                self.bits.as_slice(),
             )?;
             self.listed = self.listed.saturating_add(more);
         }
@@ -307,20 +318,23 @@ fn side_of(alloc: Global, rule: &InhibitRule) -> Result<SourceSide, AllocError>
     })
 }
 
-/// Takes in at a side those of the label sets that it hasn't seen. Returns how much more it lists
-/// then. If memory runs out, it has seen some of them.
+/// Takes in at a side those of the label sets that it hasn't seen, given the bits of their values.
+/// Returns how much more it lists then. If memory runs out, it has seen some of them.
 fn list_all(
     alloc: Global,
     answers: &mut MatchCache,
     cached: &mut CachedSide,
     arrived: &[Labels],
+    bits: &[u64],
 ) -> Result<usize, AllocError>
-    requires { ListsSide arrived.now cached.old }
+    requires lists { ListsSide arrived.now cached.old }
+    requires bits { bits.now ≡ bits_of arrived.now }
     ensures { ListsSide arrived.now cached.new }
 {
     let before = size_of(cached);
+    let required = required_bits(cached.side.source.as_slice());
     while cached.covered < arrived.len() {
-        list_next(alloc, answers, cached, arrived)?;
+        list_next(alloc, answers, cached, required, arrived, bits)?;
     }
     Ok(size_of(cached).saturating_sub(before))
 }
@@ -331,36 +345,55 @@ fn size_of(cached: &CachedSide) -> usize {
     cached.listed.saturating_add(lists)
 }
 
-/// Takes in at a side the first of the label sets that it hasn't seen.
+/// Takes in at a side the first of the label sets that it hasn't seen, given the bits that its
+/// matchers ask for and those of the label sets' values.
 fn list_next(
     alloc: Global,
     answers: &mut MatchCache,
     cached: &mut CachedSide,
+    required: u64,
     arrived: &[Labels],
+    bits: &[u64],
 ) -> Result<(), AllocError>
     requires lists { ListsSide arrived.now cached.old }
     requires left { cached.old.covered < length arrived.now }
+    requires required { required ≡ required_bits cached.old.side.source }
+    requires bits { bits.now ≡ bits_of arrived.now }
     ensures lists { ListsSide arrived.now cached.new }
+    ensures side { cached.new.side ≡ cached.old.side }
     ensures covered { OnOk result (cached.new.covered ≡ cached.old.covered + 1) }
 {
     let number = cached.covered;
-    list_source(alloc, answers, cached, &arrived[number])?;
+    let may_match = has_all(bits[number], required);
+    list_source(alloc, answers, cached, &arrived[number], may_match)?;
     cached.covered += 1;
     Ok(())
 }
 
-/// Lists a label set at a side if it matches the side.
+/// Returns whether bits have all those that are required.
+fn has_all(bits: u64, required: u64) -> bool
+    ensures { result ≡ (bit_or bits required == bits) }
+{
+    bits | required == bits
+}
+
+/// Lists a label set at a side if it matches the side. It asks the matchers only if it may.
 fn list_source(
     alloc: Global,
     answers: &mut MatchCache,
     cached: &mut CachedSide,
     labels: &Labels,
+    may_match: bool,
 ) -> Result<(), AllocError>
+    requires { may_match ≡ false → all_hold cached.old.side.source labels.now ≡ false }
     ensures side { cached.new.side ≡ cached.old.side }
     ensures covered { cached.new.covered ≡ cached.old.covered }
     ensures listed { OnOk result (IsPut labels.now cached.old cached.new) }
     ensures err { OnErr result (ListsSame cached.old.sources cached.new.sources) }
 {
+    if !may_match {
+        return Ok(());
+    }
     if !cached.side.source.matches_all(answers, labels)? {
         return Ok(());
     }

@@ -9,13 +9,17 @@ use Rattle.amr_engine.proofs.indexes.rule_source.RuleSources.add_side.Goals as g
 pub invariant_of-self-in_err-insert : goal.invariant_of-self-in_err-insert
 invariant_of-self-in_err-insert c =
     let t = c.self.inside in
-    let cached : CachedSide = record { side = c.in_ok-side_of.field-0; covered = 0; sources = c.new.result; listed = 0 } in
-    subst (All (ListsSide t.arrived.items)) (sym c.in_ok-push.ensures.items)
-    (All-push (ListsSide t.arrived.items) t.sides.items cached c.self.invariant (side_new t.arrived.items cached refl c.new.ensures.shown))
+    let cached : CachedSide = record { side = c.in_ok-side_of.field-0; covered = 0; sources = c.new.result; listed = 0 } in (
+      subst (All (ListsSide t.arrived.items)) (sym c.in_ok-push.ensures.items)
+          (All-push (ListsSide t.arrived.items) t.sides.items cached c.self.invariant.0 (side_new t.arrived.items cached refl c.new.ensures.shown)),
+      c.self.invariant.1,
+    )
 
 pub invariant_of-self-2 : goal.invariant_of-self-2
 invariant_of-self-2 c =
     let t = c.self.inside in
-    let cached : CachedSide = record { side = c.in_ok-side_of.field-0; covered = 0; sources = c.new.result; listed = 0 } in
-    subst (All (ListsSide t.arrived.items)) (sym c.in_ok-push.ensures.items)
-    (All-push (ListsSide t.arrived.items) t.sides.items cached c.self.invariant (side_new t.arrived.items cached refl c.new.ensures.shown))
+    let cached : CachedSide = record { side = c.in_ok-side_of.field-0; covered = 0; sources = c.new.result; listed = 0 } in (
+      subst (All (ListsSide t.arrived.items)) (sym c.in_ok-push.ensures.items)
+          (All-push (ListsSide t.arrived.items) t.sides.items cached c.self.invariant.0 (side_new t.arrived.items cached refl c.new.ensures.shown)),
+      c.self.invariant.1,
+    )
