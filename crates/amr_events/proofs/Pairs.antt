@@ -6,7 +6,8 @@ use Rattle.std.specs.Ordering.{ordering_reverse}
 use Rattle.serde_json.specs.Data.{string, object, Members, no_members, member, put}
 use Rattle.amr_labels.specs.Labels.{Text, text_cmp}
 use Rattle.amr_events.specs.Shapes.{◌>>=◌, each_member, named_text, texts_in}
-use Rattle.amr_events.specs.Tokens.{IsAfter, lent_texts}
+use Rattle.amr_events.specs.Tokens.{IsAfter}
+use Rattle.amr_labels.specs.Lent.{lent_texts}
 
 abbrev pub Pairs : Type 0
 Pairs = List (Text × Text)

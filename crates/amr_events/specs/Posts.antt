@@ -1,2 +1,3 @@
 pub mod Ids
 pub mod Reasons
+pub mod Times

@@ -1,7 +1,6 @@
 -- JSON values as the tokens of a line state them.
-use Rattle.std.specs.Prelude.{◌≡◌, ℕ, ◌≤◌, List, [], ◌∷◌, map, codes, Some, IfSome}
+use Rattle.std.specs.Prelude.{◌≡◌, ℕ, ◌≤◌, List, [], ◌∷◌, codes, Some, IfSome}
 use Rattle.std.specs.declared.cmp.Ordering.TheVariants.{Less}
-use Rattle.std.specs.Borrow.{Bor}
 use Rattle.json.specs.Token.{Token}
 use Rattle.json.specs.Json.{value}
 use Rattle.serde_json.specs.Data.{Data, object, Members, put}
@@ -18,10 +17,6 @@ pub record States (Is : Data → Type 0) (depth : ℕ) (tokens rest : List Token
   pub stated : Data
   pub read : converted of_json (value depth tokens) ≡ Some (stated, rest)
   pub such : Is stated
-
--- names and texts that are lent
-abbrev pub lent_texts : List (Bor Text × Bor Text) → List (Text × Text)
-lent_texts = map (λ pair. (pair.0.now, pair.1.now))
 
 -- What was read of an alert is what these members of its object state.
 pub record IsDraft (found : Members) (draft : Draft) : Type 0 where

@@ -1,41 +1,122 @@
-//! Values in buckets that follow from their hashes, so that a value is found again by few
-//! comparisons. `text_cache.rt` keeps the texts and the labels of a script so.
+//! Values by hash, each in one of a few buckets that follow from its hash. So a value is found again by
+//! few comparisons, however a script chooses its texts. What was read of a script is kept so.
 
 use std::alloc::{AllocError, Global};
-use std::mem;
 
 /// In how many buckets next to each other a value may be.
 const BUCKETS_OF_A_VALUE: usize = 4;
 
-/// A value with its hash, which says in which buckets it may be. Equal values have the same.
+/// What a bucket holds in which no value is. No value has this index.
+const FREE: u32 = u32::MAX;
+
+/// A value with its hash.
 #[derive(Drop)]
-pub(crate) struct Hashed<T> {
-    pub(crate) hash_value: usize,
-    pub(crate) value: T,
+struct Hashed<T> {
+    hash_value: u64,
+    value: T,
 }
 
-/// Values in buckets. The number of buckets is zero or a power of two.
+/// Values by hash. Two values with the same hash aren't kept both. The number of buckets is zero or a
+/// power of two, and at least twice that of the values.
 #[derive(Drop)]
 pub(crate) struct Buckets<T> {
     alloc: Global,
-    buckets: Vec<Option<Hashed<T>>>,
-    /// How many values were added.
-    added: usize,
+    values: Vec<Hashed<T>>,
+    /// The index of a value, or `FREE`. An index takes less memory than a value, so that a bucket is
+    /// mostly found in a fast cache of the processor.
+    buckets: Vec<u32>,
 }
 
 impl<T: Drop> Buckets<T> {
-    /// Returns no buckets.
+    /// Returns no values.
     pub(crate) fn new(alloc: Global) -> Buckets<T> {
         Buckets {
             alloc,
+            values: Vec::new(alloc),
             buckets: Vec::new(alloc),
-            added: 0,
         }
     }
 
-    /// Returns the buckets in which values of a hash are. Other values may be there too, so whoever
-    /// uses them compares them.
-    pub(crate) fn near(&self, hash_value: usize) -> &[Option<Hashed<T>>] {
+    /// Returns the value with a hash, if it is kept.
+    pub(crate) fn get(&self, hash_value: u64) -> Option<&T> {
+        for &index in self.near(hash_value) {
+            match self.values.get(index as usize) {
+                Some(found) if found.hash_value == hash_value => return Some(&found.value),
+                _ => {}
+            }
+        }
+        None
+    }
+
+    /// Keeps a value with its hash. A value with the same hash is forgotten, and if all buckets of the
+    /// hash are taken, the value in the first one.
+    pub(crate) fn insert(&mut self, hash_value: u64, value: T) -> Result<(), AllocError> {
+        if self.values.len() >= self.buckets.len() / 2 {
+            self.grow()?;
+        }
+        let bucket = self.bucket_for(hash_value);
+        let index = self.index_in(bucket);
+        let hashed = Hashed { hash_value, value };
+        if let Some(taken) = self.values.get_mut(index as usize) {
+            *taken = hashed;
+            return Ok(());
+        }
+        let next = self.values.len();
+        self.values.push(hashed)?;
+        self.put(next);
+        Ok(())
+    }
+
+    /// Doubles the number of buckets.
+    fn grow(&mut self) -> Result<(), AllocError> {
+        let doubled = self.buckets.len().saturating_mul(2).max(64);
+        let mut buckets = Vec::new(self.alloc);
+        buckets.resize(doubled, FREE)?;
+        self.buckets = buckets;
+        for index in 0..self.values.len() {
+            self.put(index);
+        }
+        Ok(())
+    }
+
+    /// Puts the index of a value into a bucket of its hash.
+    fn put(&mut self, index: usize) {
+        let Some(hashed) = self.values.get(index) else {
+            return;
+        };
+        let bucket = self.bucket_for(hashed.hash_value);
+        if let (Some(held), Ok(index)) = (self.buckets.get_mut(bucket), u32::try_from(index)) {
+            *held = index;
+        }
+    }
+
+    /// Returns what a bucket holds.
+    fn index_in(&self, bucket: usize) -> u32 {
+        self.buckets.get(bucket).copied().unwrap_or(FREE)
+    }
+
+    /// Returns the bucket for a value with a hash: that of the value with the same hash, or else the
+    /// first free one, or else the first.
+    fn bucket_for(&self, hash_value: u64) -> usize {
+        let near = self.near(hash_value);
+        let same = near
+            .iter()
+            .position(|index| self.has_hash(*index, hash_value));
+        let free = near.iter().position(|index| *index == FREE);
+        let position = same.or(free).unwrap_or(0);
+        self.start(hash_value).saturating_add(position)
+    }
+
+    /// Returns whether the value with an index has a hash.
+    fn has_hash(&self, index: u32, hash_value: u64) -> bool {
+        match self.values.get(index as usize) {
+            Some(found) => found.hash_value == hash_value,
+            None => false,
+        }
+    }
+
+    /// Returns the buckets in which a value with a hash may be.
+    fn near(&self, hash_value: u64) -> &[u32] {
         let start = self.start(hash_value);
         let end = start
             .saturating_add(BUCKETS_OF_A_VALUE)
@@ -47,57 +128,8 @@ impl<T: Drop> Buckets<T> {
         }
     }
 
-    /// Adds a value with its hash. If all buckets of its hash are taken, the value in the first one
-    /// is forgotten.
-    pub(crate) fn add(&mut self, hash_value: usize, value: T) -> Result<(), AllocError> {
-        if self.added >= self.buckets.len() / 2 {
-            self.grow()?;
-        }
-        self.put(Hashed { hash_value, value });
-        Ok(())
-    }
-
-    /// Doubles the number of buckets.
-    fn grow(&mut self) -> Result<(), AllocError> {
-        let doubled = self.buckets.len().saturating_mul(2).max(64);
-        let buckets = mem::replace(&mut self.buckets, free_buckets(self.alloc, doubled)?);
-        self.added = 0;
-        for bucket in buckets {
-            if let Some(hashed) = bucket {
-                self.put(hashed);
-            }
-        }
-        Ok(())
-    }
-
-    /// Puts a value into the first free bucket of its hash, or else into the first one.
-    fn put(&mut self, hashed: Hashed<T>) {
-        let start = self.start(hashed.hash_value);
-        let free = self
-            .near(start)
-            .iter()
-            .position(|bucket| bucket.is_none())
-            .unwrap_or(0);
-        if let Some(bucket) = self.buckets.get_mut(start.saturating_add(free)) {
-            *bucket = Some(hashed);
-            self.added = self.added.saturating_add(1);
-        }
-    }
-
     /// Returns the first bucket of a hash.
-    fn start(&self, hash_value: usize) -> usize {
-        hash_value & self.buckets.len().wrapping_sub(1)
+    fn start(&self, hash_value: u64) -> usize {
+        hash_value as usize & self.buckets.len().wrapping_sub(1)
     }
-}
-
-/// Returns buckets in which no value is.
-fn free_buckets<T: Drop>(
-    alloc: Global,
-    count: usize,
-) -> Result<Vec<Option<Hashed<T>>>, AllocError> {
-    let mut buckets = Vec::with_capacity(alloc, count)?;
-    for _ in 0..count {
-        buckets.push(None)?;
-    }
-    Ok(buckets)
 }

@@ -5,11 +5,11 @@ ghost use Rattle.std.specs.Result.{result_ok};
 ghost use Rattle.serde_json.specs.View.{view};
 ghost use Rattle.amr_time.specs.declared.error.TimeError.TheVariants.{BadTime};
 ghost use Rattle.amr_events.specs.Answers.{Reads};
-ghost use Rattle.amr_events.specs.Tokens.{lent_texts};
+ghost use Rattle.amr_labels.specs.Lent.{lent_texts};
 ghost use Rattle.amr_events.specs.Posted.{is_missing as is_missing_text, time_of, time_in, annotations_in, alert_of, alerts_of};
 
 use crate::error::LineError;
-use crate::posts::PostedAlert;
+use crate::posts::{PostedAlert, PostedTime};
 use crate::shapes::{member, texts};
 use crate::text_cache::TextCache;
 use amr_labels::{Listing, Text, TextMap};
@@ -62,8 +62,8 @@ fn alert(alloc: Global, cache: &mut TextCache, alert: &Value) -> Result<PostedAl
     Ok(PostedAlert {
         labels,
         annotations,
-        starts_at,
-        ends_at,
+        starts_at: PostedTime::new(starts_at),
+        ends_at: PostedTime::new(ends_at),
     })
 }
 

@@ -7,10 +7,11 @@ ghost use Rattle.amr_events.specs.Shapes.{texts_in};
 ghost use Rattle.serde_json.specs.Data.{object, Members};
 ghost use Rattle.amr_config.specs.Read.Members.{unless_null};
 ghost use Rattle.amr_events.specs.Posted.{alert_of, time_at};
-ghost use Rattle.amr_events.specs.Tokens.{States, IsDraft, Adds, IsAfter, lent_texts};
+ghost use Rattle.amr_events.specs.Tokens.{States, IsDraft, Adds, IsAfter};
+ghost use Rattle.amr_labels.specs.Lent.{lent_texts};
 
 use crate::posted::time_of;
-use crate::posts::{PostedAlert, PostedLabels};
+use crate::posts::{PostedAlert, PostedLabels, PostedTime};
 use crate::text_cache::TextCache;
 use amr_labels::TextMap;
 use amr_time::Moment;
@@ -103,8 +104,8 @@ impl Draft {
         Some(PostedAlert {
             labels: self.labels?,
             annotations: self.annotations,
-            starts_at: self.starts_at,
-            ends_at: self.ends_at,
+            starts_at: PostedTime::new(self.starts_at),
+            ends_at: PostedTime::new(self.ends_at),
         })
     }
 }

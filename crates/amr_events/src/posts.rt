@@ -4,11 +4,13 @@
 mod posted_alert;
 mod posted_labels;
 mod posted_silence;
+mod posted_time;
 mod reason;
 mod silence_id;
 
 pub use posted_alert::PostedAlert;
 pub use posted_labels::PostedLabels;
 pub use posted_silence::PostedSilence;
+pub use posted_time::PostedTime;
 pub use reason::Reason;
 pub use silence_id::SilenceId;

@@ -5,9 +5,9 @@ ghost use Rattle.std.specs.Coded.{codes};
 ghost use Rattle.amr_labels.specs.Map as map;
 ghost use Rattle.amr_events.specs.ReloadCache.{Spells};
 
-use crate::buckets::{Buckets, Hashed};
+use crate::buckets::Buckets;
+use crate::text_cache::hash_of_text;
 use amr_config::Config;
-use amr_labels::fnv_hash;
 use std::alloc::{AllocError, Global};
 
 /// A configuration, and the JSON text of the value that it was read from.
@@ -18,7 +18,7 @@ struct CachedReload {
     ghost spelled: { Spells (string_bytes text) config } by { Prim.hlevel (codes, map.code) },
 }
 
-/// Configurations that were read before, by the texts of their values.
+/// Configurations that were read before, by the hashes of the texts of their values.
 #[derive(Drop)]
 pub(crate) struct ReloadCache {
     reloads: Buckets<CachedReload>,
@@ -36,9 +36,9 @@ impl ReloadCache {
     pub(crate) fn get(&self, text: &str) -> Result<Option<Config>, AllocError>
         ensures { IfOk result (λ found. IfSome found (λ config. Spells text.now config)) }
     {
-        match config_among(self.reloads.near(fnv_hash(text)), text) {
-            Some(config) => Ok(Some(config.clone()?)),
-            None => Ok(None),
+        match self.reloads.get(hash_of_text(text)) {
+            Some(cached) if cached.text.as_str() == text => Ok(Some(cached.config.clone()?)),
+            _ => Ok(None),
         }
     }
 
@@ -47,22 +47,9 @@ impl ReloadCache {
         requires { Spells (string_bytes text) config.now }
     {
         let config = config.clone()?;
-        let hash_value = fnv_hash(text.as_str());
-        self.reloads.add(hash_value, CachedReload { text, config })
+        let hash_value = hash_of_text(text.as_str());
+        self.reloads
+            .insert(hash_value, CachedReload { text, config })?;
+        Ok(())
     }
-}
-
-/// Returns the configuration in one of these buckets that was read from the value of a text.
-fn config_among<'a>(buckets: &'a [Option<Hashed<CachedReload>>], text: &str) -> Option<&'a Config>
-    ensures { IfSome result (λ config. Spells text.now config.now) }
-{
-    for bucket in buckets {
-        match bucket {
-            Some(cached) if cached.value.text.as_str() == text => {
-                return Some(&cached.value.config);
-            }
-            _ => {}
-        }
-    }
-    None
 }

@@ -5,21 +5,74 @@
 //! patterns of silences and reloads, so that each is built once, and the configurations of reloads.
 ghost use Rattle.std.specs.Prelude.{◌≡◌, true, reverse, IfOk, IfSome};
 ghost use Rattle.amr_labels.specs.Map as map;
-ghost use Rattle.amr_events.specs.Tokens.{lent_texts};
+ghost use Rattle.amr_labels.specs.Lent.{lent_texts};
 
-use crate::buckets::{Buckets, Hashed};
+use crate::buckets::Buckets;
 use crate::posts::PostedLabels;
 use crate::reload_cache::ReloadCache;
 use amr_labels::matcher::Patterns;
-use amr_labels::{Text, TextMap, fnv_hash};
+use amr_labels::{Labels, Text, TextMap};
 use std::alloc::{AllocError, Global};
+use std::hash::{FoldHasher, Hasher};
+use std::marker::Model;
+
+/// The labels of an alert, with the label set that has just their names and values, if they are one.
+/// Contracts see the names and values.
+#[derive(Drop)]
+struct CachedLabels {
+    posted: PostedLabels,
+    label_set: Option<Labels>,
+}
+
+impl Model for CachedLabels {
+    ghost use Rattle.std.specs.Prelude.{◌≡◌, List, ℕ, IfSome};
+    ghost use Rattle.std.specs.Coded.{codes};
+    ghost use Rattle.amr_labels.specs.Map as map;
+
+    ghost Value = { List (List ℕ × List ℕ) };
+
+    ghost coded = { Prim.hlevel codes };
+
+    ghost view = { λ cached. cached.posted };
+
+    ghost invariant = { λ cached. IfSome cached.label_set
+        (λ labels. map.entries labels ≡ cached.posted) };
+}
+
+impl CachedLabels {
+    /// Returns the labels to cache for these names and texts, which are theirs.
+    fn new(posted: PostedLabels, stated: &[(&str, &str)]) -> Result<CachedLabels, AllocError>
+        requires { posted ≡ lent_texts stated.now }
+        ensures { IfOk result (λ cached. cached ≡ posted) }
+    {
+        let label_set = match posted.label_set() {
+            Some(labels) if labels.has_entries(stated) => Some(labels.clone()?),
+            _ => None,
+        };
+        Ok(CachedLabels { posted, label_set })
+    }
+
+    /// Returns true only if these are the names and texts.
+    fn are(&self, stated: &[(&str, &str)]) -> bool
+        ensures { result ≡ true → self.now ≡ lent_texts stated.now }
+    {
+        match &self.label_set {
+            Some(labels) => labels.has_entries(stated),
+            None => are_stated(self.posted.pairs(), stated),
+        }
+    }
+}
 
 /// Texts, labels, patterns and configurations that were read before. Looking up a text or labels
 /// mostly takes one or two comparisons.
 #[derive(Drop)]
 pub(crate) struct TextCache {
+    /// The texts, by their hashes.
     texts: Buckets<Text>,
-    labels: Buckets<PostedLabels>,
+    /// The labels, by the hashes of their names and values.
+    labels: Buckets<CachedLabels>,
+    /// The annotations, by the hashes of their names and values.
+    annotations: Buckets<TextMap>,
     /// An empty map, if one was needed. All alerts without annotations share it.
     none: Option<TextMap>,
     patterns: Patterns,
@@ -32,6 +85,7 @@ impl TextCache {
         TextCache {
             texts: Buckets::new(alloc),
             labels: Buckets::new(alloc),
+            annotations: Buckets::new(alloc),
             none: None,
             patterns: Patterns::new(alloc),
             reloads: ReloadCache::new(alloc),
@@ -54,17 +108,19 @@ impl TextCache {
         ensures { IfOk result (λ labels. labels ≡ lent_texts stated.now) }
     {
         let hash_value = hash_of_texts(stated);
-        if let Some(cached) = labels_among(self.labels.near(hash_value), hash_value, stated) {
-            return Ok(cached.clone()?);
+        match self.labels.get(hash_value) {
+            Some(cached) if cached.are(stated) => return Ok(cached.posted.clone()?),
+            _ => {}
         }
         let pairs = self.share_pairs(alloc, stated)?;
         let labels = PostedLabels::new(alloc, pairs)?;
-        self.labels.add(hash_value, labels.clone()?)?;
+        let cached = CachedLabels::new(labels.clone()?, stated)?;
+        self.labels.insert(hash_value, cached)?;
         Ok(labels)
     }
 
-    /// Returns the map of names and texts. It shares each of them with an equal text that was
-    /// returned before.
+    /// Returns the map of names and texts. It is shared with an equal map that was returned before
+    /// for texts in the order of their names.
     pub(crate) fn annotations_of(
         &mut self,
         alloc: Global,
@@ -73,8 +129,15 @@ impl TextCache {
         ensures { IfOk result (λ texts. texts
             ≡ map.from_entries (reverse (lent_texts stated.now))) }
     {
+        let hash_value = hash_of_texts(stated);
+        match self.annotations.get(hash_value) {
+            Some(cached) if are_stated(cached.entries(), stated) => return Ok(cached.clone()?),
+            _ => {}
+        }
         let pairs = self.share_pairs(alloc, stated)?;
-        TextMap::from_pairs(alloc, pairs.as_slice())
+        let annotations = TextMap::from_pairs(alloc, pairs.as_slice())?;
+        self.annotations.insert(hash_value, annotations.clone()?)?;
+        Ok(annotations)
     }
 
     /// Returns an empty map, which is shared by all to which it is returned.
@@ -110,68 +173,32 @@ impl TextCache {
     fn share(&mut self, alloc: Global, text: &str) -> Result<Text, AllocError>
         ensures { IfOk result (λ shared. shared ≡ text.now) }
     {
-        let hash_value = fnv_hash(text);
-        if let Some(cached) = text_among(self.texts.near(hash_value), hash_value, text) {
-            return Ok(cached.clone()?);
+        let hash_value = hash_of_text(text);
+        match self.texts.get(hash_value) {
+            Some(cached) if cached.as_str() == text => return Ok(cached.clone()?),
+            _ => {}
         }
         let shared = Text::from_str(alloc, text)?;
-        self.texts.add(hash_value, shared.clone()?)?;
+        self.texts.insert(hash_value, shared.clone()?)?;
         Ok(shared)
     }
 }
 
+/// Returns a hash of a text.
+pub(crate) fn hash_of_text(text: &str) -> u64 {
+    let mut hasher = FoldHasher::default();
+    hasher.write(text.as_bytes());
+    hasher.finish()
+}
+
 /// Returns a hash of names and texts.
-fn hash_of_texts(stated: &[(&str, &str)]) -> usize {
-    let mut hash_value: usize = 0;
+fn hash_of_texts(stated: &[(&str, &str)]) -> u64 {
+    let mut hasher = FoldHasher::default();
     for (name, text) in stated {
-        hash_value = hash_after(hash_value, name, text);
+        hasher.write(name.as_bytes());
+        hasher.write(text.as_bytes());
     }
-    hash_value
-}
-
-/// Returns the hash of some names and texts, given that of all but the last.
-fn hash_after(hash_value: usize, name: &str, text: &str) -> usize {
-    let with_name = hash_value.rotate_left(5) ^ fnv_hash(name);
-    with_name.rotate_left(5) ^ fnv_hash(text)
-}
-
-/// Returns the text in one of these buckets, given its hash.
-fn text_among<'a>(
-    buckets: &'a [Option<Hashed<Text>>],
-    hash_value: usize,
-    text: &str,
-) -> Option<&'a Text>
-    ensures { IfSome result (λ cached. cached.now ≡ text.now) }
-{
-    for bucket in buckets {
-        match bucket {
-            Some(cached) if cached.hash_value == hash_value && cached.value.as_str() == text => {
-                return Some(&cached.value);
-            }
-            _ => {}
-        }
-    }
-    None
-}
-
-/// Returns the labels of names and texts in one of these buckets, given their hash.
-fn labels_among<'a>(
-    buckets: &'a [Option<Hashed<PostedLabels>>],
-    hash_value: usize,
-    stated: &[(&str, &str)],
-) -> Option<&'a PostedLabels>
-    ensures { IfSome result (λ cached. cached.now ≡ lent_texts stated.now) }
-{
-    for bucket in buckets {
-        match bucket {
-            Some(cached)
-                if cached.hash_value == hash_value && are_stated(cached.value.pairs(), stated) => {
-                return Some(&cached.value);
-            }
-            _ => {}
-        }
-    }
-    None
+    hasher.finish()
 }
 
 /// Returns whether these are the same names and texts, in the same order.

@@ -2,6 +2,7 @@ pub mod Ascending
 pub mod EqualLists
 pub mod Firsts
 pub mod Heads
+pub mod KeyTexts
 pub mod Pairs
 pub mod Proper
 pub mod Searches

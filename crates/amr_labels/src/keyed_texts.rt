@@ -8,6 +8,8 @@ ghost use Rattle.amr_labels.specs.SortKey.{key_of_text, key_of_label, sort_key, 
 ghost use Rattle.amr_labels.specs.Hashes.{text_sip_hash, label_set_hash};
 ghost use Rattle.amr_labels.specs.Head.{text_head, with_head};
 ghost use Rattle.amr_labels.specs.ObjectText.{plain_object};
+ghost use Rattle.amr_labels.specs.Lent.{lent_texts};
+ghost use Rattle.amr_labels.specs.Map as map;
 
 use crate::object_text::object_text;
 use crate::text::Text;
@@ -113,6 +115,17 @@ impl KeyedTexts {
         &self.texts
     }
 
+    /// Returns true only if these are the names and values, in their order. It compares them with
+    /// the sort key.
+    pub(crate) fn has_entries(&self, stated: &[(&str, &str)]) -> bool
+        ensures { result ≡ true → map.entries self.now ≡ lent_texts stated.now }
+    {
+        match &self.key {
+            Some(key) => self.texts.len() == stated.len() && is_joined(key.as_str(), stated),
+            None => false,
+        }
+    }
+
     /// Compares the texts as label sets are compared.
     pub(crate) fn cmp(&self, other: &KeyedTexts) -> Ordering
         ensures { result ≡ label_set_cmp self.now other.now }
@@ -194,6 +207,35 @@ fn push_text(key: &mut String, text: &Text) -> Result<(), AllocError>
 {
     key.push_str(text.as_str())?;
     key.push('\0')
+}
+
+/// Returns whether a key is that of these names and values.
+fn is_joined(key: &str, stated: &[(&str, &str)]) -> bool
+    ensures { result ≡ true → key.now ≡ sort_key (lent_texts stated.now) }
+{
+    let mut rest = key.as_bytes();
+    for (name, value) in stated {
+        match after_label(rest, name, value) {
+            Some(after) => rest = after,
+            None => return false,
+        }
+    }
+    rest.is_empty()
+}
+
+/// Returns what follows the key of a name and its value, if a key begins with it.
+fn after_label<'a>(key: &'a [u8], name: &str, value: &str) -> Option<&'a [u8]>
+    ensures { IfSome result (λ rest. key.now ≡ key_of_label (name.now, value.now) ++ rest.now) }
+{
+    after_text(after_text(key, name)?, value)
+}
+
+/// Returns what follows the key of a text, if a key begins with it.
+fn after_text<'a>(key: &'a [u8], text: &str) -> Option<&'a [u8]>
+    ensures { IfSome result (λ rest. key.now ≡ key_of_text text.now ++ rest.now) }
+{
+    let ended = key.strip_prefix(text.as_bytes())?;
+    ended.strip_prefix(&[0])
 }
 
 /// Compares sort keys, given their heads.

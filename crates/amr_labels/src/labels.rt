@@ -1,5 +1,5 @@
 //! Label sets, by which alerts, groups and sources of inhibition are identified.
-ghost use Rattle.std.specs.Prelude.{◌≡◌, ◌==◌, List, ℕ, IfOk, IfSome};
+ghost use Rattle.std.specs.Prelude.{◌≡◌, ◌==◌, true, List, ℕ, IfOk, IfSome};
 ghost use Rattle.std.proofs.Common.{rules};
 ghost use Rattle.std.specs.Cmp.{partial_order_from_own_ties};
 ghost use Rattle.std.specs.Cmp.Rules.{comparing};
@@ -10,6 +10,7 @@ ghost use Rattle.amr_labels.specs.Map as map;
 ghost use Rattle.amr_labels.specs.Labels.{text_cmp, value_of, label_set_cmp, label_set_cmp_total, labels_of_pairs, IsLabelSet};
 ghost use Rattle.amr_labels.specs.Hashes.{label_set_hash};
 ghost use Rattle.amr_labels.specs.ObjectText.{plain_object};
+ghost use Rattle.amr_labels.specs.Lent.{lent_texts};
 
 use crate::exact::Exact;
 use crate::keyed_texts::KeyedTexts;
@@ -100,6 +101,14 @@ impl Labels {
         ensures { result.now ≡ map.entries self.now }
     {
         self.texts().entries()
+    }
+
+    /// Returns true only if these are the names and values, in the order of the names. It is faster
+    /// than comparing them one by one.
+    pub fn has_entries(&self, stated: &[(&str, &str)]) -> bool
+        ensures { result ≡ true → map.entries self.now ≡ lent_texts stated.now }
+    {
+        self.shared.get().has_entries(stated)
     }
 
     /// Returns the number of labels.

@@ -59,10 +59,11 @@ fn with_times(now: Moment, timeout: Span, posted: &PostedAlert) -> Result<Alert,
     requires { now + timeout < before_year_10000 }
     ensures { IfOk result (λ alert. alert ≡ with_times now timeout posted.now) }
 {
+    let (start, end) = (posted.starts_at.get(), posted.ends_at.get());
     Ok(Alert {
-        starts_at: posted.starts_at.or(posted.ends_at).unwrap_or(now),
-        ends_at: posted.ends_at.unwrap_or(now.plus(timeout)),
-        timed_out: posted.ends_at.is_none(),
+        starts_at: start.or(end).unwrap_or(now),
+        ends_at: end.unwrap_or(now.plus(timeout)),
+        timed_out: end.is_none(),
         annotations: posted.annotations.clone()?,
         last_post: now,
     })

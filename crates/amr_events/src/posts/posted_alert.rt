@@ -1,8 +1,8 @@
 //! An alert as it is posted. `amr_rules` fills in its times when the post is made.
 
 use crate::posts::posted_labels::PostedLabels;
+use crate::posts::posted_time::PostedTime;
 use amr_labels::TextMap;
-use amr_time::Moment;
 
 /// An alert as it is posted (a postable alert of Alertmanager's API v2). Its times may be missing.
 #[derive(Drop)]
@@ -12,7 +12,7 @@ pub struct PostedAlert {
     pub labels: PostedLabels,
     pub annotations: TextMap,
     /// The start, if the post gives one.
-    pub starts_at: Option<Moment>,
+    pub starts_at: PostedTime,
     /// The end, if the post gives one.
-    pub ends_at: Option<Moment>,
+    pub ends_at: PostedTime,
 }

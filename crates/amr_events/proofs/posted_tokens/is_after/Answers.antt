@@ -1,7 +1,8 @@
 use Rattle.std.proofs.Common.{◌≡◌, ℕ, zero, suc, ◌-◌, ◌<◌, List, [], ◌∷◌, length, Some, slice_get, Less, arith, rules}
 use Rattle.std.specs.Borrow.{Bor}
 use Rattle.amr_labels.specs.Labels.{Text, text_cmp}
-use Rattle.amr_events.specs.Tokens.{IsAfter, lent_texts}
+use Rattle.amr_events.specs.Tokens.{IsAfter}
+use Rattle.amr_labels.specs.Lent.{lent_texts}
 use Rattle.amr_events.proofs.posted_tokens.is_after.Goals as goal
 
 some_first : (texts : List (Bor Text × Bor Text)) (n : ℕ) (last : Bor Text × Bor Text) → slice_get texts n ≡ Some last → 0 < length texts

@@ -1,7 +1,7 @@
 use Rattle.std.proofs.Common.{◌≡◌, Some, reverse, rules}
 use Rattle.amr_labels.specs.Map.{from_entries}
 use Rattle.amr_events.specs.Shapes.{texts_in}
-use Rattle.amr_events.specs.Tokens.{lent_texts}
+use Rattle.amr_labels.specs.Lent.{lent_texts}
 use Rattle.amr_events.proofs.Stating.{states_such}
 use Rattle.amr_events.proofs.Drafting.{with_annotations}
 use Rattle.amr_events.proofs.posted_tokens.read_annotations.Goals as goal

@@ -1,6 +1,6 @@
 use Rattle.std.proofs.Common.{◌≡◌, Some, rules}
 use Rattle.amr_events.specs.Shapes.{texts_in}
-use Rattle.amr_events.specs.Tokens.{lent_texts}
+use Rattle.amr_labels.specs.Lent.{lent_texts}
 use Rattle.amr_events.proofs.Stating.{states_such}
 use Rattle.amr_events.proofs.Drafting.{with_labels}
 use Rattle.amr_events.proofs.posted_tokens.read_labels.Goals as goal

@@ -3,7 +3,8 @@ use Rattle.json.specs.Token.{Token}
 use Rattle.json.specs.Json.{read_key}
 use Rattle.json.proofs.Grammar.{read_key-shorter}
 use Rattle.amr_events.specs.Shapes.{texts_in}
-use Rattle.amr_events.specs.Tokens.{IsAfter, lent_texts}
+use Rattle.amr_events.specs.Tokens.{IsAfter}
+use Rattle.amr_labels.specs.Lent.{lent_texts}
 use Rattle.amr_events.proofs.Stating.{states_object, all_members_read, one_more_text}
 use Rattle.amr_events.proofs.Pairs.{text_members, texts_of_members, ascend_push, put_last_text, spelled_push}
 use Rattle.amr_events.proofs.posted_tokens.usual_texts.Goals as goal

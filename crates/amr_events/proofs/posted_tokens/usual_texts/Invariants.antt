@@ -1,5 +1,5 @@
 use Rattle.std.proofs.Common.{◌≤◌, ℕ, length}
-use Rattle.amr_events.specs.Tokens.{lent_texts}
+use Rattle.amr_labels.specs.Lent.{lent_texts}
 use Rattle.amr_events.proofs.Stating.{MembersLeft}
 use Rattle.amr_events.proofs.Pairs.{text_members, Ascend}
 use Rattle.amr_events.proofs.posted_tokens.usual_texts.Given as goal

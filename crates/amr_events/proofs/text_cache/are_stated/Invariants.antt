@@ -1,5 +1,5 @@
 use Rattle.std.proofs.Common.{◌≡◌, take}
-use Rattle.amr_events.specs.Tokens.{lent_texts}
+use Rattle.amr_labels.specs.Lent.{lent_texts}
 use Rattle.amr_events.proofs.text_cache.are_stated.Given as goal
 
 abbrev pub invariant-loop-index : goal.invariant-loop-index

@@ -1,0 +1,101 @@
+-- A sort key says of which labels it is, if it is known how many they are.
+use Rattle.std.proofs.Common.{arith, ◌≡◌, ◌==◌, ℕ, ◌≤◌, ◌+◌, List, [], ◌∷◌, ◌++◌, Bool, true, ◌||◌, false, length, get_or, take, drop, nat_eq, Bor, Option, Some, None, MatchOption, refl, sym, ap, ◌∙◌}
+use Rattle.std.specs.Prelude.{IfSome}
+use Rattle.std.specs.List.{list_any}
+use Rattle.std.proofs.lemmas.Bool.{or_parts}
+use Rattle.std.proofs.lemmas.List.{append_assoc, take-append-drop}
+use Rattle.amr_labels.specs.Labels.{Text}
+use Rattle.amr_labels.specs.SortKey.{key_of_text, sort_key, has_zero, has_zeros}
+use lib.Pointwise.{pointwise, bytes_decides}
+
+-- the texts with their ends
+abbrev key_of : List Text → Text
+key_of [] = []
+key_of (text ∷ texts) = key_of_text text ++ key_of texts
+
+abbrev none_have_zeros : List Text → Bool
+none_have_zeros texts = list_any has_zero texts
+
+rest_of : {A : Type 0} {x y : A} {xs ys : List A} → x ∷ xs ≡ y ∷ ys → xs ≡ ys
+rest_of e = ap (drop 1) e
+
+first_of : {x y : ℕ} {xs ys : List ℕ} → x ∷ xs ≡ y ∷ ys → x ≡ y
+first_of e = ap (λ l. get_or l 0 0) e
+
+not_zero : (byte : ℕ) (text : Text) → has_zero (byte ∷ text) ≡ false → byte ≡ 0 → ⊥
+not_zero byte text h e = let none = (or_parts (byte == 0) (has_zero text) h).0 in grind (arith, none, e)
+
+nothing : (text : Text) (key : List ℕ) → [] ≡ key_of_text text ++ key → ⊥
+nothing [] key e = let n = ap length e in omega (arith, n)
+nothing (b ∷ text) key e = let n = ap length e in omega (arith, n)
+
+module _ (texts : List Text) (others_are : (others : List Text) → length texts ≤ length others → key_of texts ≡ key_of others → texts ≡ others) where
+  first_texts : (text other : Text) (others : List Text) → has_zero text ≡ false → length texts ≤ length others
+      → key_of_text text ++ key_of texts ≡ key_of_text other ++ key_of others → (text ≡ other) × (texts ≡ others)
+  first_texts [] [] others h l e = (refl, others_are others l (rest_of e))
+  first_texts [] (b ∷ other) others h l e =
+      let n = ap length (others_are (other ∷ others) (omega (arith, l)) (rest_of e)) in absurd (omega (arith, n, l))
+  first_texts (a ∷ text) [] others h l e = absurd (not_zero a text h (first_of e))
+  first_texts (a ∷ text) (b ∷ other) others h l e =
+      let rest = first_texts text other others (or_parts (a == 0) (has_zero text) h).1 l (rest_of e) in
+      ((λ i. first_of e i ∷ rest.0 i), rest.1)
+
+same_texts : (texts others : List Text) → none_have_zeros texts ≡ false → length texts ≤ length others → key_of texts ≡ key_of others → texts ≡ others
+same_texts [] [] h l e = refl
+same_texts [] (other ∷ others) h l e = absurd (nothing other (key_of others) e)
+same_texts (text ∷ texts) [] h l e = absurd (omega (arith, l))
+same_texts (text ∷ texts) (other ∷ others) h l e =
+    let parts = or_parts (has_zero text) (none_have_zeros texts) h in
+    let are = first_texts texts (λ more. same_texts texts more parts.1) text other others parts.0 (omega (arith, l)) e in
+    λ i. are.0 i ∷ are.1 i
+
+-- the names and the values, one after another
+abbrev texts_of : List (Text × Text) → List Text
+texts_of [] = []
+texts_of (label ∷ labels) = label.0 ∷ label.1 ∷ texts_of labels
+
+key_is : (labels : List (Text × Text)) → key_of (texts_of labels) ≡ sort_key labels
+key_is [] = refl
+key_is (label ∷ labels) =
+    ap (λ key. key_of_text label.0 ++ (key_of_text label.1 ++ key)) (key_is labels)
+    ∙ sym (append_assoc (key_of_text label.0) (key_of_text label.1) (sort_key labels))
+
+no_zeros : (labels : List (Text × Text)) → has_zeros labels ≡ false → none_have_zeros (texts_of labels) ≡ false
+no_zeros [] h = refl
+no_zeros (label ∷ labels) h =
+    let parts = or_parts (has_zero label.0 || has_zero label.1) (has_zeros labels) h in
+    let both = or_parts (has_zero label.0) (has_zero label.1) parts.0 in
+    λ i. both.0 i || (both.1 i || no_zeros labels parts.1 i)
+
+count_is : (labels : List (Text × Text)) → length (texts_of labels) ≡ length labels + length labels
+count_is [] = refl
+count_is (label ∷ labels) = let n = count_is labels in omega (arith, n)
+
+labels_are : (labels others : List (Text × Text)) → texts_of labels ≡ texts_of others → labels ≡ others
+labels_are [] [] e = refl
+labels_are [] (other ∷ others) e = let n = ap length e in absurd (omega (arith, n))
+labels_are (label ∷ labels) [] e = let n = ap length e in absurd (omega (arith, n))
+labels_are (label ∷ labels) (other ∷ others) e =
+    let rest = labels_are labels others (rest_of (rest_of e)) in
+    λ i. (get_or (e i) 0 [], get_or (e i) 1 []) ∷ rest i
+
+-- labels without a zero are those of any as many labels with their sort key
+pub of_sort_key : (labels others : List (Text × Text)) → has_zeros labels ≡ false → length labels ≡ length others → sort_key labels ≡ sort_key others → labels ≡ others
+of_sort_key labels others h count e =
+    let here = count_is labels in
+    let there = count_is others in
+    labels_are labels others
+    (same_texts (texts_of labels) (texts_of others) (no_zeros labels h) (omega (arith, here, there, count)) (key_is labels ∙ e ∙ sym (key_is others)))
+
+begins : (key first rest : Text) → pointwise nat_eq (take (length first) key) first ≡ true → rest ≡ drop (length first) key → key ≡ first ++ rest
+begins key first rest e is = sym (take-append-drop (length first) key) ∙ (λ i. (bytes_decides (take (length first) key) first).0 e i ++ sym is i)
+
+-- what follows a text and its end in a key
+pub after_end : (key text ended : Text) (found : Option (Bor Text)) → pointwise nat_eq (take (length text) key) text ≡ true → ended ≡ drop (length text) key
+    → MatchOption found (pointwise nat_eq (take 1 ended) (0 ∷ []) ≡ false) (λ rest. (pointwise nat_eq (take 1 ended) (0 ∷ []) ≡ true) × (rest.now ≡ drop 1 ended) × (length rest.now + 1 ≡ length ended))
+    → IfSome found (λ rest. key ≡ key_of_text text ++ rest.now)
+after_end key text ended None e is h = tt
+after_end key text ended (Some rest) e is h =
+    begins key text ended e is
+    ∙ ap (λ k. text ++ k) (begins ended (0 ∷ []) rest.now h.0 h.1)
+    ∙ sym (append_assoc text (0 ∷ []) rest.now)
