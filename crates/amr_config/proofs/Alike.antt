@@ -91,7 +91,7 @@ pub same_cached : (a b : Config) → AreAlike a b → (labels : LabelSet) → ro
 same_cached a b alike labels =
     let rules : rule_matches labels a.rules ≡ rule_matches labels b.rules = by_sides labels a.rules ∙ ap (map (match_of labels)) alike.rules ∙ sym (by_sides labels b.rules) in
     let groups = same_groups a b alike.routes labels in
-    λ i. record { groups = groups i; rules = rules i }
+    λ i. record { labels = labels; groups = groups i; rules = rules i }
 
 -- ---- lists whose elements are alike, one by one
 

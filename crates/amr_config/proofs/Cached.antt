@@ -1,12 +1,16 @@
--- Caches of answers for label sets: without an answer, and with one more.
-use Rattle.std.proofs.Common.{◌≡◌, cond, None, Some, refl, sym, ap, subst, ◌∙◌}
+-- Caches of answers for label sets: without an answer, with one more, and under another configuration.
+use Rattle.std.proofs.Common.{arith, ◌≡◌, ℕ, true, List, Bor, cond, Option, None, Some, refl, sym, ap, subst, ◌∙◌}
 use Rattle.std.specs.Prelude.{Result, Ok, Err, OnOk, OnErr}
 use Rattle.std.specs.declared.cmp.Ordering.TheVariants.{Less, Equal, Greater}
-use Rattle.std.specs.Ordering.{is_eq}
+use Rattle.std.specs.Ordering.{is_eq, eq_by_cmp}
+use Rattle.std.specs.Slice.{IsItemAt}
+use Rattle.std.proofs.lemmas.Map.Views.{tells_apart}
 use Rattle.amr_labels.specs.Labels.{LabelSet, label_set_cmp, label_set_cmp_total, label_set_cmp-IsAntisymmetric}
 use Rattle.amr_labels.specs.Map.{Map, empty, get, set, insert, get-empty, get-set}
 use Rattle.amr_tables.specs.Numbered.{Numbered, map_of}
-use Rattle.amr_config.specs.Groups.{CachesOnly}
+use Rattle.amr_config.specs.declared.router.CachedRouting.{CachedRouting}
+use Rattle.amr_config.specs.Stated.Config.{Config}
+use Rattle.amr_config.specs.Groups.{CachesOnly, routing_to_cache, IsCacheOf, IsRoutingOf}
 
 same_of_some : {X : Type 0} (x y : X) → Some x ≡ Some y → x ≡ y
 same_of_some x y e = cc
@@ -48,3 +52,15 @@ module _ {X : Type 0} (answer : LabelSet → X) (cached : Numbered LabelSet X) w
       → OnOk r (map_of label_set_cmp more ≡ insert (map_of label_set_cmp cached) labels x) → OnErr r (map_of label_set_cmp more ≡ map_of label_set_cmp cached) → CachesOnly answer more
   caches_inserted (Ok done) more labels x is_cached is shows none = caches_more more labels x is_cached is shows
   caches_inserted (Err error) more labels x is_cached is shows none = subst (Gives answer) (sym none) is_cached
+
+-- what is cached at a place is so under any configuration that routes alike
+pub same_routing : (here there : Config) → ((labels : LabelSet) → routing_to_cache there labels ≡ routing_to_cache here labels) → (place : Option CachedRouting) → IsRoutingOf there place → IsRoutingOf here place
+same_routing here there same None is = tt
+same_routing here there same (Some cached) is = is ∙ same cached.labels
+
+-- what is found at a place of the labels that it was worked out of
+pub routing_found : (config : Config) (cache : List (Option CachedRouting)) (n : ℕ) (place : Bor (Option CachedRouting)) (cached : CachedRouting) (labels : LabelSet) → IsCacheOf config cache
+    → IsItemAt cache n (Some place) → place.now ≡ Some cached → eq_by_cmp label_set_cmp cached.labels labels ≡ true → cached ≡ routing_to_cache config labels
+routing_found config cache n place cached labels is found some same =
+    let here = subst (IsRoutingOf config) (sym (found.4 (omega arith) None)) (is n None found.3.0) in
+    subst (IsRoutingOf config) some here ∙ ap (routing_to_cache config) (tells_apart label_set_cmp-IsAntisymmetric cached.labels labels same)

@@ -1,5 +1,6 @@
 -- The groups that take an alert.
-use Rattle.std.specs.Prelude.{◌≡◌, ℕ, List, Some, map}
+use Rattle.std.specs.Prelude.{◌≡◌, ℕ, List, Option, Some, IfSome, map}
+use Rattle.std.specs.List.{All}
 use Rattle.amr_labels.specs.Labels.{LabelSet, label_set_cmp}
 use Rattle.amr_labels.specs.Map.{Map, get}
 use Rattle.amr_tables.specs.Numbered.{Numbered, map_of}
@@ -20,15 +21,18 @@ groups_of config labels = map (group_at config labels) (chosen_routes config lab
 
 -- what is to be cached of a label set
 abbrev pub routing_to_cache : Config → LabelSet → CachedRouting
-routing_to_cache config labels = record { groups = groups_of config labels; rules = rule_matches labels config.rules }
+routing_to_cache config labels = record { labels = labels; groups = groups_of config labels; rules = rule_matches labels config.rules }
+
+-- what is cached at a place are the groups of a label set, and the sides of the rules that it is on
+abbrev pub IsRoutingOf : Config → Option CachedRouting → Type 0
+IsRoutingOf config place = IfSome place (λ cached. cached ≡ routing_to_cache config cached.labels)
+
+abbrev pub IsCacheOf : Config → List (Option CachedRouting) → Type 0
+IsCacheOf config cache = All (IsRoutingOf config) cache
 
 -- what is cached of each label set is this answer
 abbrev pub CachesOnly : {X : Type 0} → (LabelSet → X) → Numbered LabelSet X → Type 0
 CachesOnly answer cache = (labels : LabelSet) (found : _) → get (map_of label_set_cmp cache) labels ≡ Some found → found ≡ answer labels
-
--- what is cached of a label set are its groups, and the sides of the rules that it is on
-abbrev pub IsCacheOf : Config → Numbered LabelSet CachedRouting → Type 0
-IsCacheOf config cache = CachesOnly (routing_to_cache config) cache
 
 -- what is cached of a label set are the sides of the rules that it is on
 abbrev pub AreSides : Config → Map label_set_cmp (List RuleMatch) → Type 0

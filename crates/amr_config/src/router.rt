@@ -2,8 +2,9 @@
 //! inhibition rules. The state of a replay holds it in place of the configuration, so that what was
 //! worked out travels with the configuration through a reload and back. Contracts see nothing of
 //! what it caches.
-ghost use Rattle.std.specs.Prelude.{◌≡◌, IfOk};
-ghost use Rattle.amr_config.specs.Groups.{groups_of, group_at};
+ghost use Rattle.std.specs.Prelude.{◌≡◌, ◌<◌, length, IfOk, OnOk, IfSome};
+ghost use Rattle.amr_config.specs.Groups.{groups_of, group_at, routing_to_cache, IsCacheOf};
+ghost use Rattle.amr_config.specs.Stated.Config.{Config};
 ghost use Rattle.amr_config.specs.Stated.RuleMatches.{rule_matches};
 
 use crate::config::Config;
@@ -13,7 +14,6 @@ use crate::routing::chosen_routes;
 use crate::stated::{RuleMatch, rule_matches};
 use amr_labels::matcher::MatchCache;
 use amr_labels::{LabelMap, Labels, Listing, Shared};
-use amr_tables::Keyed;
 use std::alloc::{AllocError, Global};
 use std::marker::Model;
 use std::mem;
@@ -27,7 +27,8 @@ pub struct Router {
     answers: MatchCache,
     /// The group labels that were made, which equal groups share.
     group_labels: GroupLabels,
-    cache: Keyed<Labels, CachedRouting>,
+    /// What is cached of label sets, by their numbers.
+    cache: Vec<Option<CachedRouting>>,
     /// The sides of the rules, by the labels that the rules' matchers name.
     sides: LabelMap<Shared<Listing<RuleMatch>>>,
 }
@@ -35,6 +36,7 @@ pub struct Router {
 /// What is cached of a label set: its groups, and the sides of the inhibition rules that it is on.
 #[derive(Drop)]
 pub(crate) struct CachedRouting {
+    pub(crate) labels: Labels,
     pub(crate) groups: Shared<Listing<RouteLabels>>,
     pub(crate) rules: Shared<Listing<RuleMatch>>,
 }
@@ -47,7 +49,7 @@ impl Model for Router {
 
     ghost view = { λ router. router.config };
 
-    ghost invariant = { λ router. IsCacheOf router.config router.cache
+    ghost invariant = { λ router. IsCacheOf router.config router.cache.items
         × AreSides router.config router.sides };
 }
 
@@ -61,7 +63,7 @@ impl Router {
             config,
             answers: MatchCache::new(alloc),
             group_labels: GroupLabels::new(alloc),
-            cache: Keyed::new(alloc),
+            cache: Vec::new(alloc),
             sides: LabelMap::new(alloc),
         }
     }
@@ -74,24 +76,32 @@ impl Router {
     }
 
     /// Returns the groups that take an alert with these labels, by route. It asks the routes once
-    /// for each label set.
-    pub fn groups_of(&mut self, labels: &Labels) -> Result<Shared<Listing<RouteLabels>>, AllocError>
+    /// for each label set that has a number. The state gives each of its label sets its own.
+    pub fn groups_of(
+        &mut self,
+        number: Option<usize>,
+        labels: &Labels,
+    ) -> Result<Shared<Listing<RouteLabels>>, AllocError>
         ensures groups { IfOk result (λ groups. groups ≡ groups_of self.old labels.now) }
         ensures same { self.new ≡ self.old }
     {
-        match self.cache.get(labels) {
-            Some(cache) => cache.groups.clone(),
-            None => self.work_out(labels),
+        match self.cached(number, labels) {
+            Some(cached) => cached.groups.clone(),
+            None => self.work_out(number, labels),
         }
     }
 
     /// Returns which sides of the configuration's inhibition rules these labels are on. It asks no
-    /// matcher if it has been asked for the groups of these labels before.
-    pub fn rule_matches(&self, labels: &Labels) -> Result<Shared<Listing<RuleMatch>>, AllocError>
+    /// matcher if it has been asked for the groups of these labels, with this number, before.
+    pub fn rule_matches(
+        &self,
+        number: Option<usize>,
+        labels: &Labels,
+    ) -> Result<Shared<Listing<RuleMatch>>, AllocError>
         ensures { IfOk result (λ found. found ≡ rule_matches labels.now self.now.rules) }
     {
-        match self.cache.get(labels) {
-            Some(cache) => cache.rules.clone(),
+        match self.cached(number, labels) {
+            Some(cached) => cached.rules.clone(),
             None => {
                 let mut answers = MatchCache::none(self.alloc);
                 sides_of(self.alloc, &self.config, &mut answers, labels)
@@ -99,9 +109,20 @@ impl Router {
         }
     }
 
+    /// Returns what is cached of a label set with this number.
+    fn cached(&self, number: Option<usize>, labels: &Labels) -> Option<&CachedRouting>
+        ensures { IfSome result (λ cached. cached.now ≡ routing_to_cache self.now labels.now) }
+    {
+        match self.cache.get(number?) {
+            Some(Some(cached)) if cached.labels == *labels => Some(cached),
+            _ => None,
+        }
+    }
+
     /// Swaps what doesn't depend on the configuration with another router: what patterns answered,
     /// and the group labels that were made. If the two configurations are alike, it also swaps the
-    /// groups and the sides of each label set. So a reload, and undoing it, lose none of these.
+    /// groups and the sides of each label set. So a reload, and undoing it, lose none of these. If
+    /// they aren't alike, the other router forgets them, so that records don't keep them.
     pub fn swap_cache(&mut self, other: &mut Router)
         ensures same { self.new ≡ self.old }
         ensures other { other.new ≡ other.old }
@@ -111,12 +132,26 @@ impl Router {
         if self.config.is_alike(&other.config) {
             mem::swap(&mut self.cache, &mut other.cache);
             mem::swap(&mut self.sides, &mut other.sides);
+        } else {
+            other.forget();
         }
     }
 
-    /// Works out the groups that take an alert with these labels, and caches them if there is
-    /// room.
-    fn work_out(&mut self, labels: &Labels) -> Result<Shared<Listing<RouteLabels>>, AllocError>
+    /// Forgets the groups and the sides of all label sets. It takes no memory.
+    fn forget(&mut self)
+        ensures { self.new ≡ self.old }
+    {
+        self.cache = Vec::new(self.alloc);
+        self.sides = LabelMap::new(self.alloc);
+    }
+
+    /// Works out the groups that take an alert with these labels, and caches them if there is a
+    /// number and room.
+    fn work_out(
+        &mut self,
+        number: Option<usize>,
+        labels: &Labels,
+    ) -> Result<Shared<Listing<RouteLabels>>, AllocError>
         ensures groups { IfOk result (λ groups. groups ≡ groups_of self.old labels.now) }
         ensures same { self.new ≡ self.old }
     {
@@ -128,13 +163,16 @@ impl Router {
             labels,
         )?;
         let groups = Shared::new(self.alloc, found)?;
-        let _forgotten = self.cache_groups(labels, groups.clone()?);
+        if let Some(number) = number {
+            let _forgotten = self.cache_groups(number, labels, groups.clone()?);
+        }
         Ok(groups)
     }
 
     /// Caches the groups of this label set, and the sides of the inhibition rules that it is on.
     fn cache_groups(
         &mut self,
+        number: usize,
         labels: &Labels,
         groups: Shared<Listing<RouteLabels>>,
     ) -> Result<(), AllocError>
@@ -142,8 +180,14 @@ impl Router {
         ensures { self.new ≡ self.old }
     {
         let rules = self.sides_of(labels)?;
-        let found = CachedRouting { groups, rules };
-        self.cache.insert(labels.clone()?, found)
+        let labels = labels.clone()?;
+        make_place(&mut self.cache, number)?;
+        self.cache[number] = Some(CachedRouting {
+            labels,
+            groups,
+            rules,
+        });
+        Ok(())
     }
 
     /// Returns which sides of the inhibition rules these labels are on. It asks the matchers once
@@ -192,6 +236,18 @@ impl Router {
         self.sides.insert(kept, sides)?;
         Ok(())
     }
+}
+
+/// Makes a place for what is cached of the label set with a number, unless there is one.
+fn make_place(cache: &mut Vec<Option<CachedRouting>>, number: usize) -> Result<(), AllocError>
+    ensures place { OnOk result (number < length cache.new.items) }
+    ensures cached { (config : Config) → IsCacheOf config cache.old.items
+        → IsCacheOf config cache.new.items }
+{
+    while cache.len() <= number {
+        cache.push(None)?;
+    }
+    Ok(())
 }
 
 /// Works out which sides of the configuration's inhibition rules these labels are on.

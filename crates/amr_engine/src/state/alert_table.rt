@@ -82,6 +82,13 @@ impl AlertTable {
         &self.alerts
     }
 
+    /// Returns the number of a label set, if it has a place.
+    pub fn number_of(&self, labels: &Labels) -> Option<usize>
+        ensures { result ≡ number_of label_set_cmp self.now labels.now }
+    {
+        self.alerts.number_of(labels)
+    }
+
     /// Returns the alerts with their labels, in the order of the labels. It sorts them, so it is for
     /// listings.
     pub fn sorted(&self, alloc: Global) -> Result<Vec<(&Labels, &Alert)>, AllocError>

@@ -94,22 +94,24 @@ impl Roster {
     /// Returns the group of this label set on each route that takes it, by route.
     pub(crate) fn groups_of(
         &mut self,
+        number: Option<usize>,
         labels: &Labels,
     ) -> Result<Shared<Listing<RouteLabels>>, AllocError>
         ensures groups { IfOk result (λ groups. groups ≡ groups_of self.old.config labels.now) }
         ensures same { self.new ≡ self.old }
     {
-        self.config.groups_of(labels)
+        self.config.groups_of(number, labels)
     }
 
     /// Returns which sides of the configuration's inhibition rules this label set is on.
     pub(crate) fn rule_matches(
         &self,
+        number: Option<usize>,
         labels: &Labels,
     ) -> Result<Shared<Listing<RuleMatch>>, AllocError>
         ensures { IfOk result (λ found. found ≡ rule_matches labels.now self.now.config.rules) }
     {
-        self.config.rule_matches(labels)
+        self.config.rule_matches(number, labels)
     }
 
     /// Returns the members of all groups, by route and labels.

@@ -319,7 +319,8 @@ impl Store {
             ≡ groups_of self.old.state.config labels.now) }
         ensures same { self.new ≡ self.old }
     {
-        self.tables.roster.groups_of(labels)
+        let number = self.tables.alerts.number_of(labels);
+        self.tables.roster.groups_of(number, labels)
     }
 
     /// Returns which sides of the configuration's inhibition rules these labels are on. It asks no
@@ -328,7 +329,8 @@ impl Store {
         ensures { IfOk result (λ found. found
             ≡ rule_matches labels.now self.now.state.config.rules) }
     {
-        self.tables.roster.rule_matches(labels)
+        let number = self.tables.alerts.number_of(labels);
+        self.tables.roster.rule_matches(number, labels)
     }
 
     // ---- changes

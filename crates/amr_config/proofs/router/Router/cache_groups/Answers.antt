@@ -1,22 +1,21 @@
-use Rattle.std.proofs.Common.{◌≡◌, ◌∙◌, ap, sym}
+use Rattle.std.proofs.Common.{◌≡◌, Some, ◌∙◌, ap, sym}
 use Rattle.amr_config.specs.Stated.Config.{Config}
 use Rattle.amr_config.specs.Stated.RuleMatches.{rule_matches}
 use Rattle.amr_config.specs.declared.router.CachedRouting.{CachedRouting}
-use Rattle.amr_config.specs.Groups.{groups_of, routing_to_cache}
-use Rattle.amr_config.proofs.Cached.{caches_inserted}
+use Rattle.amr_config.specs.Groups.{groups_of, routing_to_cache, IsRoutingOf}
+use Rattle.std.proofs.lemmas.List.Elements.{All-set}
 use Rattle.amr_config.proofs.router.Router.cache_groups.Goals as goal
 
 pub invariant_of-self-2 : goal.invariant_of-self-2
 invariant_of-self-2 c =
     let config : Config = c.self.inside.config in
-    let cache = c.self.inside.cache in
     let here = c.args.labels.now in
     let same : config ≡ c.args.self.now = c.self.view_is ∙ c.sides_of.ensures.same in
-    let found : CachedRouting = record { groups = c.args.groups; rules = c.in_ok-rules.rules } in
+    let found : CachedRouting = record { labels = c.in_ok-labels.labels; groups = c.args.groups; rules = c.in_ok-rules.rules } in
     let groups : c.args.groups ≡ groups_of config here = c.requires ∙ ap (λ k. groups_of k here) (sym same) in
     let rules : c.in_ok-rules.rules ≡ rule_matches here config.rules = c.in_ok-rules.ensures.sides ∙ ap (λ k. rule_matches here k.rules) (sym same) in
-    let is : found ≡ routing_to_cache config here = λ i. record { groups = groups i; rules = rules i } in (
-      caches_inserted (routing_to_cache config) cache c.insert.result c.insert.new.self c.in_ok-clone.field-0 found c.self.invariant.0
-          (is ∙ ap (routing_to_cache config) (sym c.in_ok-clone.ensures.cases)) c.insert.ensures.ok c.insert.ensures.err,
+    let is : found ≡ routing_to_cache config here = λ i. record { labels = c.in_ok-labels.ensures.cases i; groups = groups i; rules = rules i } in
+    let placed = c.in_ok-make_place.ensures.cached config c.self.invariant.0 in (
+      All-set (IsRoutingOf config) c.make_place.new.cache.items c.args.number (Some found) (is ∙ ap (routing_to_cache config) (sym c.in_ok-labels.ensures.cases)) placed,
       c.self.invariant.1,
     )
