@@ -50,8 +50,6 @@ pub struct SilenceTable {
     changes: Vec<SilenceChange>,
     /// The number of label sets, in the order of arrival, that the silences were asked ahead for.
     asked_ahead: usize,
-    /// The moment at which they were last asked ahead.
-    asked_at: Moment,
     /// The silences that are left to ask, if they were listed since the last change.
     unexpired: Option<Unexpired>,
 }
@@ -102,7 +100,6 @@ impl SilenceTable {
             cached: Keyed::new(alloc),
             changes: Vec::new(alloc),
             asked_ahead: 0,
-            asked_at: Moment::START,
             unexpired: None,
         }
     }
@@ -166,9 +163,8 @@ impl SilenceTable {
         if self.silences.values().next().is_none() || self.is_cached(at, labels)? {
             return Ok(());
         }
-        let start = self.first_not_asked(at);
-        if arrived.len().saturating_sub(start) >= FEWEST_AT_ONCE {
-            self.ask_ahead(at, start, arrived)?;
+        if arrived.len().saturating_sub(self.asked_ahead) >= FEWEST_AT_ONCE {
+            self.ask_ahead(at, arrived)?;
             if self.is_cached(at, labels)? {
                 return Ok(());
             }
@@ -176,28 +172,17 @@ impl SilenceTable {
         self.cache_one(at, labels)
     }
 
-    /// Returns the number of the first label set, in the order of arrival, that the silences weren't
-    /// asked ahead for. If a session went back, that is the first of all, since what was cached after
-    /// a moment may lack silences of the moment.
-    fn first_not_asked(&self, at: Moment) -> usize {
-        if at < self.asked_at {
-            0
-        } else {
-            self.asked_ahead
-        }
-    }
-
-    /// Works out the same for the label sets that arrived from this one on, up to as many as are asked
+    /// Works out the same for the label sets that arrived since it last did, up to as many as are asked
     /// for at once, unless few of them are missing.
-    fn ask_ahead(&mut self, at: Moment, start: usize, arrived: &[Labels]) -> Result<(), AllocError>
+    fn ask_ahead(&mut self, at: Moment, arrived: &[Labels]) -> Result<(), AllocError>
         ensures { self.new ≡ self.old }
     {
+        let start = self.asked_ahead;
         let end = arrived.len().min(start.saturating_add(MOST_AT_ONCE));
         if end <= start {
             return Ok(());
         }
         self.asked_ahead = end;
-        self.asked_at = at;
         let missing = self.missing(at, &arrived[start..end])?;
         if missing.len() < FEWEST_AT_ONCE {
             return Ok(());
