@@ -119,11 +119,11 @@ module _ (s : State) (event : Event) (at : Moment) (act : Act) (at_is : at ≡ e
 
   -- the action is done after the moves
   pub done_after_moves : (prepared : prepare.Prepared) (count : ℕ) (next done : State) (skipped : List ℕ) → DoesAsPrepared s at act prepared → Some (count, next) ≡ run_moved at (advance move_limit at s)
-      → done ≡ after_prepared prepared next → skipped ≡ skipped_by prepared → ComesTo s event done (acceptance count (drop (length s.notes) done.notes) skipped)
+      → done ≡ after_prepared prepared next → skipped ≡ skipped_by prepared next → ComesTo s event done (acceptance count (drop (length s.notes) done.notes) skipped)
   done_after_moves prepared count next done skipped does ran acted left =
       subst (λ (e : Event). ComesTo s e done (acceptance count (drop (length s.notes) done.notes) skipped)) the_event
       (act_accepted s at act (after_prepared prepared (at_moment at s)) count next done skipped no_label h (does.does (at_moment at s) (at_first s at)) ran
-      (does.does next (stays s at count next ran) ∙ ap (λ (x : State). Ok x) (sym acted)) (left ∙ does.skips))
+      (does.does next (stays s at count next ran) ∙ ap (λ (x : State). Ok x) (sym acted)) (left ∙ does.skips next (stays s at count next ran)))
 
 -- an event before the clock
 pub past_refused : (s : State) (event : Event) → is_label event.act ≡ false → nat_lt event.at s.moment ≡ true → ComesTo s event s (refusal 20)

@@ -5,6 +5,7 @@ pub mod RefusalLaws
 pub mod Cascade
 pub mod Endings
 pub mod Preparing
+pub mod Putting
 pub mod Partitions
 pub mod Belonging
 pub mod Settling

@@ -1,5 +1,5 @@
 -- What an action does after the moves of its event, from what was prepared before them.
-use Rattle.std.proofs.Common.{◌≡◌, true, false, ℕ, List, [], ◌∷◌, Option, None, Some, Ok, Err, length, refl, sym, ap, ◌∙◌, arith}
+use Rattle.std.proofs.Common.{◌≡◌, true, false, ℕ, List, [], ◌∷◌, Bor, Option, None, Some, Ok, Err, length, refl, sym, ap, ◌∙◌, arith}
 use Rattle.std.specs.Prelude.{◌==◌}
 use Rattle.std.specs.Option.{option_map_or}
 use Rattle.std.specs.List.{fold, filter_map}
@@ -19,11 +19,9 @@ use Rattle.amr_rules.specs.Alerts.{completed_alert}
 use Rattle.amr_rules.specs.Silences.{Silences, after_post, after_expiry, expired_form}
 use Rattle.amr_rules.specs.Silencing.{with_decision}
 use Rattle.amr_engine.specs.State.State.{State}
-use Rattle.amr_engine.specs.declared.post.Validated.{Validated}
 use Rattle.amr_engine.specs.declared.prepare.Prepared.TheVariants as prepared
 use Rattle.amr_engine.specs.Events.{after_act, at_moment, on_ok, put, put_all, valid_alerts, skipped_from, with_silences, with_config}
 use Rattle.amr_engine.specs.Prepared.{DoesAsPrepared, Stays}
-use Rattle.amr_engine.specs.Weight.{alerts_weight}
 
 abbrev pub Valid : Type 0
 Valid = List (LabelSet × Alert)
@@ -40,29 +38,26 @@ put_some s [] h = absurd (cc)
 put_some s (x ∷ v) h = refl
 
 -- no alert of a post is valid
-pub no_valid : (s : State) (at : Moment) (timeout : Span) (posted : List PostedAlert) (valid : Valid) → timeout ≡ s.config.resolve_timeout
-    → valid ≡ filter_map (completed_alert at timeout) posted → (length valid == 0) ≡ true → after_act (at_moment at s) (Act.Post posted) ≡ Err 16
+pub no_valid : (s : State) (at : Moment) (timeout : Span) (posted : List PostedAlert) → timeout ≡ s.config.resolve_timeout
+    → (length (filter_map (completed_alert at timeout) posted) == 0) ≡ true → after_act (at_moment at s) (Act.Post posted) ≡ Err 16
 unfolding after_act
-no_valid s at timeout posted valid same is none =
-    ap (put_all (at_moment at s)) (ap (λ (t : Span). filter_map (completed_alert at t) posted) (sym same) ∙ sym is ∙ none_left valid none)
+no_valid s at timeout posted same none =
+    ap (put_all (at_moment at s)) (ap (λ (t : Span). filter_map (completed_alert at t) posted) (sym same) ∙ none_left (filter_map (completed_alert at timeout) posted) none)
 
 -- the alerts that are valid after the moves are those that are valid before them
-same_valid : (s next : State) (at : Moment) (timeout : Span) (posted : List PostedAlert) (valid : Valid) → Stays s at next → timeout ≡ s.config.resolve_timeout
-    → valid ≡ filter_map (completed_alert at timeout) posted → valid_alerts next posted ≡ valid
-same_valid s next at timeout posted valid stays same is =
-    (λ i. filter_map (completed_alert (stays.moment i) (stays.config i).resolve_timeout) posted) ∙ ap (λ (t : Span). filter_map (completed_alert at t) posted) (sym same) ∙ sym is
+same_valid : (s next : State) (at : Moment) (timeout : Span) (posted : List PostedAlert) → Stays s at next → timeout ≡ s.config.resolve_timeout
+    → valid_alerts next posted ≡ filter_map (completed_alert at timeout) posted
+same_valid s next at timeout posted stays same =
+    (λ i. filter_map (completed_alert (stays.moment i) (stays.config i).resolve_timeout) posted) ∙ ap (λ (t : Span). filter_map (completed_alert at t) posted) (sym same)
 
 -- some alert of a post is valid
-pub some_valid : (s : State) (at : Moment) (timeout : Span) (posted : List PostedAlert) (validated : Validated) → timeout ≡ s.config.resolve_timeout
-    → validated.valid.items ≡ filter_map (completed_alert at timeout) posted → validated.skipped ≡ skipped_from 1 at timeout posted → (length validated.valid.items == 0) ≡ false
-    → DoesAsPrepared s at (Act.Post posted) (prepared.Put validated)
+pub some_valid : (s : State) (at : Moment) (timeout : Span) (posted : Bor (List PostedAlert)) → timeout ≡ s.config.resolve_timeout
+    → (length (filter_map (completed_alert at timeout) posted.now) == 0) ≡ false → DoesAsPrepared s at (Act.Post posted.now) (prepared.Put posted)
 unfolding after_act
-some_valid s at timeout posted validated same is left some = record {
-  does = λ next stays.
-      ap (put_all next) (same_valid s next at timeout posted validated.valid.items stays same is)
-      ∙ put_some next validated.valid.items some;
-  skips = left ∙ ap (λ (t : Span). skipped_from 1 at t posted) same;
-  light = λ next after stays. omega (arith, ap (alerts_weight next.config) (same_valid s next at timeout posted validated.valid.items stays same is));
+some_valid s at timeout posted same some = record {
+  does = λ next stays. put_some next (valid_alerts next posted.now) (ap (λ (v : Valid). length v == 0) (same_valid s next at timeout posted.now stays same) ∙ some);
+  skips = λ next stays i. skipped_from 1 (stays.moment i) (stays.config i).resolve_timeout posted.now;
+  light = λ next after stays. omega arith;
 }
 
 -- there is a reason against a silence
@@ -81,7 +76,7 @@ some_silence s at posted silence_update own = record {
       ∙ ap (λ (kept : Silences). on_ok (with_silences next) (after_post at posted kept)) stays.silences
       ∙ ap (on_ok (with_silences next)) (sym own)
       ∙ ap (λ (kept : Silences). Ok (with_silences next (with_decision posted silence_update kept))) (sym stays.silences);
-  skips = refl;
+  skips = λ next stays. refl;
   light = λ next after stays. omega arith;
 }
 
@@ -104,7 +99,7 @@ some_expiry s at id silence ended found is = record {
       ap (λ (now : Moment). on_ok (with_silences next) (after_expiry now id next.silences)) stays.moment
       ∙ ap (on_ok (with_silences next)) (expires at id next.silences (Some silence) (ap (λ (kept : Silences). get kept id) stays.silences ∙ found))
       ∙ ap (λ (x : Silence). Ok (with_silences next (insert next.silences id x))) (sym is);
-  skips = refl;
+  skips = λ next stays. refl;
   light = λ next after stays. omega arith;
 }
 
@@ -113,7 +108,7 @@ pub some_reload : (s : State) (at : Moment) (config loaded : Config) → loaded 
 unfolding after_act
 some_reload s at config loaded is = record {
   does = λ next stays. ap (λ (x : Config). Ok (with_config next x)) (sym is);
-  skips = refl;
+  skips = λ next stays. refl;
   light = λ next after stays. omega arith;
 }
 
@@ -125,9 +120,9 @@ no_reload s at reason = refl
 -- time passes
 pub some_tick : (s : State) (at : Moment) → DoesAsPrepared s at Act.Tick prepared.Tick
 unfolding after_act
-some_tick s at = record { does = λ next stays. refl; skips = refl; light = λ next after stays. omega arith }
+some_tick s at = record { does = λ next stays. refl; skips = λ next stays. refl; light = λ next after stays. omega arith }
 
 -- a label does as little
 pub some_label : (s : State) (at : Moment) (text : Text) → DoesAsPrepared s at (Act.Label text) prepared.Tick
 unfolding after_act
-some_label s at text = record { does = λ next stays. refl; skips = refl; light = λ next after stays. omega arith }
+some_label s at text = record { does = λ next stays. refl; skips = λ next stays. refl; light = λ next after stays. omega arith }

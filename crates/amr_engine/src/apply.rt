@@ -131,22 +131,19 @@ fn advance_to(
 fn perform(
     store: &mut Store,
     quiet_groups: &mut QuietGroups,
-    prepared: Prepared,
+    prepared: Prepared<'_>,
 ) -> Result<Listing<usize>, AllocError>
     requires { IsTrueOf quiet_groups.old store.old.state }
     ensures done { IfOk result (λ skipped. store.new.state
-        ≡ after_prepared prepared store.old.state) }
-    ensures skipped { IfOk result (λ skipped. skipped ≡ skipped_by prepared) }
+        ≡ after_prepared prepared.entry store.old.state) }
+    ensures skipped { IfOk result (λ skipped. skipped ≡ skipped_by prepared.entry store.old.state) }
     ensures kept { before_open_record store.new ≡ before_open_record store.old }
-    ensures grown { OnOk result (GrownBy (entries_of prepared store.old.state store.new.state)
+    ensures grown { OnOk result (GrownBy (entries_of prepared.entry store.old.state store.new.state)
         store.old store.new) }
     ensures cache { OnOk result (IsTrueOf quiet_groups.new store.new.state) }
 {
     match prepared {
-        Prepared::Put(validated) => {
-            put_all(store, quiet_groups, validated.valid)?;
-            return Ok(validated.skipped);
-        }
+        Prepared::Put(posted) => return put_all(store, quiet_groups, posted),
         Prepared::Silence {
             id,
             new_id,

@@ -5,7 +5,7 @@ ghost use Rattle.amr_time.specs.Time.{latest_read};
 ghost use Rattle.amr_events.specs.Actions.Acts.{act_of, by_number};
 ghost use Rattle.amr_events.specs.Actions.Events.{Act as act};
 
-use crate::post::{Validated, validate};
+use crate::post::has_valid;
 use crate::state::Store;
 use amr_config::Config;
 use amr_events::actions::Act;
@@ -16,9 +16,9 @@ use std::alloc::AllocError;
 
 /// What an action will do after the moves of its event, as far as it is decided before them.
 #[derive(Drop)]
-pub(crate) enum Prepared {
+pub(crate) enum Prepared<'a> {
     /// Stores the valid alerts of a post.
-    Put(Validated),
+    Put(&'a [PostedAlert]),
     /// Stores what was decided of a post of a silence.
     Silence {
         id: Option<SilenceId>,
@@ -40,11 +40,11 @@ ghost use Rattle.amr_engine.specs.State.State.{State};
 ghost use Rattle.amr_engine.specs.Prepared.{IsPrepared};
 
 /// Prepares an action at a moment, or returns the first reason against it.
-pub(crate) fn prepare(
+pub(crate) fn prepare<'a>(
     store: &Store,
     at: Moment,
-    act: &Act,
-) -> Result<Result<Prepared, Reason>, AllocError>
+    act: &'a Act,
+) -> Result<Result<Prepared<'a>, Reason>, AllocError>
     requires { at ≤ latest_read }
     ensures { IfOk result (λ prepared. IsPrepared store.now.state at (act_of act.now) prepared) }
 {
@@ -59,22 +59,20 @@ pub(crate) fn prepare(
 }
 
 /// Prepares a post of alerts. It is refused if no alert is valid.
-fn prepare_post(
+fn prepare_post<'a>(
     store: &Store,
     at: Moment,
-    posted: &[PostedAlert],
-) -> Result<Result<Prepared, Reason>, AllocError>
+    posted: &'a [PostedAlert],
+) -> Result<Result<Prepared<'a>, Reason>, AllocError>
     requires { at ≤ latest_read }
     ensures { IfOk result
         (λ prepared. IsPrepared store.now.state at (act.Post posted.now) prepared) }
 {
     let timeout = store.config().resolve_timeout();
-    let validated = validate(store.alloc(), at, timeout, posted)?;
-    let valid = validated.valid.as_slice();
-    if valid.is_empty() {
+    if !has_valid(at, timeout, posted)? {
         return Ok(Err(Reason::BadAlert));
     }
-    Ok(Ok(Prepared::Put(validated)))
+    Ok(Ok(Prepared::Put(posted)))
 }
 
 /// Prepares a post of a silence.
@@ -82,7 +80,7 @@ fn prepare_silence(
     store: &Store,
     at: Moment,
     posted: &PostedSilence,
-) -> Result<Result<Prepared, Reason>, AllocError>
+) -> Result<Result<Prepared<'static>, Reason>, AllocError>
     ensures { IfOk result
         (λ prepared. IsPrepared store.now.state at (act.Silence posted.now) prepared) }
 {
@@ -101,7 +99,7 @@ fn prepare_expiry(
     store: &Store,
     at: Moment,
     id: SilenceId,
-) -> Result<Result<Prepared, Reason>, AllocError>
+) -> Result<Result<Prepared<'static>, Reason>, AllocError>
     ensures { IfOk result (λ prepared. IsPrepared store.now.state at (act.Expire id) prepared) }
 {
     match store.silences().get(&id) {
@@ -114,7 +112,9 @@ fn prepare_expiry(
 }
 
 /// Prepares a reload. It is refused if the configuration was.
-fn prepare_reload(read: &Result<Config, Reason>) -> Result<Result<Prepared, Reason>, AllocError>
+fn prepare_reload(
+    read: &Result<Config, Reason>,
+) -> Result<Result<Prepared<'static>, Reason>, AllocError>
     ensures { IfOk result (λ prepared. (s : State) (at : ℕ)
         → IsPrepared s at (act.Reload (by_number read.now)) prepared) }
 {

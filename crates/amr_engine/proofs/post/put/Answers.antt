@@ -1,8 +1,8 @@
 use Rattle.std.proofs.Common.{◌≡◌, ap, ◌∙◌}
 use Rattle.amr_labels.specs.Map.{get, insert}
 use Rattle.amr_rules.specs.Alerts.{alert_to_store}
-use Rattle.amr_engine.specs.State.State.{insert_into_groups}
-use Rattle.amr_engine.specs.State.Kept.{Kept}
+use Rattle.amr_config.specs.Groups.{groups_of}
+use Rattle.amr_engine.specs.State.State.{State, insert_into_groups}
 use Rattle.amr_engine.specs.Events.{put}
 use Rattle.amr_engine.proofs.CachedQuiet.{still_true}
 use Rattle.amr_engine.proofs.post.put.Goals as goal
@@ -12,10 +12,10 @@ unfolding put
 returns-clause-cache c =
     let s = c.args.store.now.state in
     let labels = c.args.labels.now in
-    let same = c.groups_of.ensures.same in
-    let stored : c.in_ok-stored.stored ≡ alert_to_store s.moment (get s.alerts labels) c.args.alert = c.in_ok-stored.ensures.stored ∙ ap (λ (k : Kept). alert_to_store k.state.moment (get k.state.alerts labels) c.args.alert) same in
-    let changed : c.put_alert.new.self.state ≡ record s { alerts = insert s.alerts labels (alert_to_store s.moment (get s.alerts labels) c.args.alert) } =
-    c.in_ok-stored.ensures.ok ∙ (λ i. record ((same i).state) { alerts = insert (same i).state.alerts labels (stored i) }) in
-    still_true c.insert_into_each.result c.forget_joined.new.self c.insert_into_each.new.store.state (insert_into_groups c.put_alert.new.self.state (labels, c.in_ok-stored.stored)) (put s (labels, c.args.alert))
-    (c.forget_joined.ensures s (labels, c.args.alert) (c.as_slice-groups.ensures ∙ c.get.ensures ∙ c.in_ok-groups.ensures.groups) c.requires)
+    let stored = c.in_ok-stored.ensures.stored in
+    let changed : c.groups_of.new.self.state ≡ record s { alerts = insert s.alerts labels (alert_to_store s.moment (get s.alerts labels) c.args.alert) } =
+    ap (λ k. k.state) c.groups_of.ensures.same ∙ c.in_ok-stored.ensures.ok ∙ (λ i. record s { alerts = insert s.alerts labels (stored i) }) in
+    let groups : c.in_ok-groups.groups ≡ groups_of s.config labels = c.in_ok-groups.ensures.groups ∙ ap (λ (state : State). groups_of state.config labels) c.in_ok-stored.ensures.ok in
+    still_true c.insert_into_each.result c.forget_joined.new.self c.insert_into_each.new.store.state (insert_into_groups c.groups_of.new.self.state (labels, c.in_ok-stored.stored)) (put s (labels, c.args.alert))
+    (c.forget_joined.ensures s (labels, c.args.alert) (c.as_slice-groups.ensures ∙ c.get.ensures ∙ groups) c.requires)
     (λ i. insert_into_groups (changed i) (labels, stored i)) c.insert_into_each.ensures.ok

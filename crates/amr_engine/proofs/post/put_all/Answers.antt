@@ -1,24 +1,60 @@
-use Rattle.std.proofs.Common.{◌≡◌, ◌+◌, ◌∷◌, length, sym, ap, ◌∙◌, arith}
-use Rattle.std.specs.List.{fold}
-use Rattle.std.specs.Vec.Iter.{into_iter_items}
+use Rattle.std.proofs.Common.{◌≡◌, ℕ, ◌+◌, ◌∷◌, ◌++◌, [], Some, None, List, length, drop, sym, ap, ◌∙◌}
+use Rattle.std.specs.List.{fold, filter_map}
+use Rattle.std.proofs.lemmas.List.{drop_more, append_assoc}
+use Rattle.amr_labels.specs.Labels.{LabelSet}
+use Rattle.amr_events.specs.declared.posts.posted_alert.PostedAlert.{PostedAlert}
+use Rattle.amr_rules.specs.Alerts.{completed_alert}
+use Rattle.amr_rules.specs.declared.alert.Alert.{Alert}
 use Rattle.amr_engine.specs.State.State.{State}
-use Rattle.amr_engine.specs.Events.{put}
+use Rattle.amr_engine.specs.Events.{put, skipped_from}
 use Rattle.amr_engine.specs.Weight.{alerts_weight}
 use Rattle.amr_engine.proofs.Copied.{put-config}
 use Rattle.amr_engine.proofs.Growing.{put_more}
+use Rattle.amr_engine.proofs.Putting.{valid_first, not_skipped, invalid_first, skipped_first}
+use Rattle.amr_engine.proofs.post.put_all.Goals.{in-Some+in_ok-put-in-Some, in-None+in_ok-push-in-None}
 use Rattle.amr_engine.proofs.post.put_all.Goals as goal
 
-pub loop-labels-preserved : goal.loop-labels-preserved
-loop-labels-preserved c =
-    let rest = into_iter_items c.next.new.self in
-    let items : into_iter_items c.loop-labels.labels-iterator ≡ (c.in-Some.labels, c.in-Some.alert) ∷ rest = c.in-Some.ensures.steps.0 in
-    let one = c.in-Some.ensures.steps.1 in
-    record {
-      ok = ap (λ (s : State). fold put s rest) c.in_ok-put.ensures.ok ∙ sym (ap (fold put c.loop-labels.store.state) items) ∙ c.loop-labels.invariant.ok;
-      kept = c.in_ok-put.ensures.kept ∙ c.loop-labels.invariant.kept;
-      cache = c.in_ok-put.ensures.cache;
-      config = ap (λ (s : State). s.config) c.in_ok-put.ensures.ok ∙ put-config c.loop-labels.store.state (c.in-Some.labels, c.in-Some.alert) ∙ c.loop-labels.invariant.config;
-      grown = put_more c.args.store.now.state.config c.loop-labels.store.state.config (into_iter_items c.loop-labels.labels-iterator) (c.in-Some.labels, c.in-Some.alert) rest (length c.loop-labels.store.current)
-          (length c.put.new.store.current) (length c.args.store.now.current + alerts_weight c.args.store.now.state.config c.args.valid.items) c.loop-labels.invariant.grown items c.loop-labels.invariant.config c.put.ensures.grown;
-      left = let all = c.loop-labels.invariant.left in let more = ap length items in omega (arith, one, all, more);
-    }
+pub loop-index-preserved : goal.loop-index-preserved
+loop-index-preserved c =
+    let now : ℕ = c.moment-now.result in
+    let timeout : ℕ = c.resolve_timeout-timeout.result in
+    let posted : List PostedAlert = c.args.posted.now in
+    let index : ℕ = c.loop-index.index in
+    let s : State = c.loop-index.store.state in
+    let config = c.args.store.now.state.config in
+    let inv = c.loop-index.invariant in
+    let alert : PostedAlert = c.index-posted-index.result in
+    let rest : List PostedAlert = drop (index + 1) posted in
+    let left : drop index posted ≡ alert ∷ rest = drop_more posted index alert c.loop-index-test.true ∙ ap (λ (x : PostedAlert). x ∷ rest) (sym c.index-posted-index.is) in
+    elim c.match-branch-2.branch [
+      | in-Some+in_ok-put-in-Some w ↦
+          let valid : LabelSet × Alert = (w.in-Some.labels, w.in-Some.alert) in
+          let is : Some valid ≡ completed_alert now timeout alert = sym w.in-Some.is ∙ c.in_ok-labels.ensures in
+          let items : filter_map (completed_alert now timeout) (drop index posted) ≡ valid ∷ filter_map (completed_alert now timeout) rest =
+          ap (filter_map (completed_alert now timeout)) left ∙ valid_first now timeout alert rest valid is in
+          rw (w.store-is, w.quiet_groups-is, w.skipped-is) (record {
+            ok = ap (λ (k : State). fold put k (filter_map (completed_alert now timeout) rest)) w.in_ok-put-in-Some.ensures.ok ∙ sym (ap (fold put s) items) ∙ inv.ok;
+            skipped = ap (λ more. c.loop-index.skipped ++ more) (sym (ap (skipped_from (index + 1) now timeout) left ∙ not_skipped now timeout alert rest valid (index + 1) is)) ∙ inv.skipped;
+            kept = w.in_ok-put-in-Some.ensures.kept ∙ inv.kept;
+            cache = w.in_ok-put-in-Some.ensures.cache;
+            config = ap (λ (k : State). k.config) w.in_ok-put-in-Some.ensures.ok ∙ put-config s valid ∙ inv.config;
+            grown = put_more config s.config (filter_map (completed_alert now timeout) (drop index posted)) valid (filter_map (completed_alert now timeout) rest) (length c.loop-index.store.current)
+                (length w.put.new.store.current) (length c.args.store.now.current + alerts_weight config (filter_map (completed_alert now timeout) posted)) inv.grown items inv.config w.put.ensures.grown;
+          })
+      | in-None+in_ok-push-in-None w ↦
+          let is : None ≡ completed_alert now timeout alert = sym w.in-None.is ∙ c.in_ok-labels.ensures in
+          let items : filter_map (completed_alert now timeout) (drop index posted) ≡ filter_map (completed_alert now timeout) rest =
+          ap (filter_map (completed_alert now timeout)) left ∙ invalid_first now timeout alert rest is in
+          rw (w.store-is, w.quiet_groups-is, w.skipped-is) (record {
+            ok = sym (ap (fold put s) items) ∙ inv.ok;
+            skipped =
+                ap (λ these. these ++ skipped_from (index + 1 + 1) now timeout rest) w.in_ok-push-in-None.ensures.ok
+                ∙ append_assoc c.loop-index.skipped ((index + 1) ∷ []) (skipped_from (index + 1 + 1) now timeout rest)
+                ∙ ap (λ more. c.loop-index.skipped ++ more) (sym (ap (skipped_from (index + 1) now timeout) left ∙ skipped_first now timeout alert rest (index + 1) is))
+                ∙ inv.skipped;
+            kept = inv.kept;
+            cache = inv.cache;
+            config = inv.config;
+            grown = rw (← items) inv.grown;
+          })
+    ]
