@@ -3,7 +3,7 @@
 //! holds each text once, and the labels of an alert once, however often they are posted. They are
 //! found by comparing them with what a line states, before any text is copied. It also keeps the
 //! patterns of silences and reloads, so that each is built once, and the configurations of reloads.
-ghost use Rattle.std.specs.Prelude.{◌≡◌, true, reverse, IfOk, IfSome};
+ghost use Rattle.std.specs.Prelude.{◌≡◌, ◌≢◌, true, false, reverse, IfOk};
 ghost use Rattle.amr_labels.specs.Map as map;
 ghost use Rattle.amr_labels.specs.Lent.{lent_texts};
 
@@ -11,7 +11,7 @@ use crate::buckets::Buckets;
 use crate::posts::PostedLabels;
 use crate::reload_cache::ReloadCache;
 use amr_labels::matcher::Patterns;
-use amr_labels::{Labels, Text, TextMap};
+use amr_labels::{Labels, Text, TextMap, are_stated};
 use std::alloc::{AllocError, Global};
 use std::hash::{FoldHasher, Hasher};
 use std::marker::Model;
@@ -52,9 +52,10 @@ impl CachedLabels {
         Ok(CachedLabels { posted, label_set })
     }
 
-    /// Returns true only if these are the names and texts.
+    /// Returns whether these are the names and texts.
     fn are(&self, stated: &[(&str, &str)]) -> bool
-        ensures { result ≡ true → self.now ≡ lent_texts stated.now }
+        ensures equal { result ≡ true → self.now ≡ lent_texts stated.now }
+        ensures other { result ≡ false → self.now ≢ lent_texts stated.now }
     {
         match &self.label_set {
             Some(labels) => labels.has_entries(stated),
@@ -199,27 +200,4 @@ fn hash_of_texts(stated: &[(&str, &str)]) -> u64 {
         hasher.write(text.as_bytes());
     }
     hasher.finish()
-}
-
-/// Returns whether these are the same names and texts, in the same order.
-fn are_stated(pairs: &[(Text, Text)], stated: &[(&str, &str)]) -> bool
-    ensures { result ≡ true → pairs.now ≡ lent_texts stated.now }
-{
-    if pairs.len() != stated.len() {
-        return false;
-    }
-    for (index, pair) in pairs.iter().enumerate() {
-        let (name, text) = stated[index];
-        if !is_stated(pair, name, text) {
-            return false;
-        }
-    }
-    true
-}
-
-/// Returns whether this is the same name and text.
-fn is_stated(pair: &(Text, Text), name: &str, text: &str) -> bool
-    ensures { result ≡ true → pair.now ≡ (name.now, text.now) }
-{
-    pair.0.as_str() == name && pair.1.as_str() == text
 }

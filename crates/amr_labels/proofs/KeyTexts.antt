@@ -1,11 +1,13 @@
 -- A sort key says of which labels it is, if it is known how many they are.
-use Rattle.std.proofs.Common.{arith, ◌≡◌, ◌==◌, ℕ, ◌≤◌, ◌+◌, List, [], ◌∷◌, ◌++◌, Bool, true, ◌||◌, false, length, get_or, take, drop, nat_eq, Bor, Option, Some, None, MatchOption, refl, sym, ap, ◌∙◌}
-use Rattle.std.specs.Prelude.{IfSome}
+use Rattle.std.proofs.Common.{arith, ◌≡◌, ◌≢◌, ◌==◌, ℕ, zero, suc, ◌<◌, ◌≤◌, ◌+◌, List, [], ◌∷◌, ◌++◌, Bool, true, ◌||◌, false, length, get_or, take, drop, nat_eq, Bor, Option, Some, None, MatchOption, refl, sym, ap, ◌∙◌}
+use Rattle.std.specs.Prelude.{IfSome, IfNone}
 use Rattle.std.specs.List.{list_any}
-use Rattle.std.proofs.lemmas.Bool.{or_parts}
-use Rattle.std.proofs.lemmas.List.{append_assoc, take-append-drop}
+use Rattle.std.proofs.lemmas.Bool.{or_parts, true≢false}
+use Rattle.std.proofs.lemmas.List.{append_assoc, append_cancel_left, take-append-drop}
+use Rattle.std.proofs.Math.Seq.{take-append_seam, drop-append_seam}
 use Rattle.amr_labels.specs.Labels.{Text}
-use Rattle.amr_labels.specs.SortKey.{key_of_text, sort_key, has_zero, has_zeros}
+use Rattle.amr_labels.specs.SortKey.{key_of_text, key_of_label, sort_key, has_zero, has_zeros}
+use Rattle.amr_labels.specs.Lent.{lent_texts}
 use lib.Pointwise.{pointwise, bytes_decides}
 
 -- the texts with their ends
@@ -99,3 +101,47 @@ after_end key text ended (Some rest) e is h =
     begins key text ended e is
     ∙ ap (λ k. text ++ k) (begins ended (0 ∷ []) rest.now h.0 h.1)
     ∙ sym (append_assoc text (0 ∷ []) rest.now)
+
+seam : (key text rest : Text) → key ≡ key_of_text text ++ rest → key ≡ text ++ (0 ∷ rest)
+seam key text rest e = e ∙ append_assoc text (0 ∷ []) rest
+
+-- a key doesn't begin with a text and its end if it doesn't begin with the text
+pub not_begun : (key text : Text) → pointwise nat_eq (take (length text) key) text ≡ false → (rest : Text) → key ≢ key_of_text text ++ rest
+not_begun key text other rest e =
+    let begun = ap (take (length text)) (seam key text rest e) ∙ take-append_seam text (0 ∷ rest) in
+    true≢false (sym ((bytes_decides (take (length text) key) text).1 begun) ∙ other)
+
+-- nor if the end doesn't follow
+pub not_ended : (key text ended : Text) (found : Option (Bor Text)) → ended ≡ drop (length text) key
+    → MatchOption found (pointwise nat_eq (take 1 ended) (0 ∷ []) ≡ false) (λ rest. (pointwise nat_eq (take 1 ended) (0 ∷ []) ≡ true) × (rest.now ≡ drop 1 ended) × (length rest.now + 1 ≡ length ended))
+    → IfNone found ((rest : Text) → key ≢ key_of_text text ++ rest)
+not_ended key text ended None is other = λ rest e.
+    let follows = is ∙ ap (drop (length text)) (seam key text rest e) ∙ drop-append_seam text (0 ∷ rest) in
+    true≢false (sym ((bytes_decides (take 1 ended) (0 ∷ [])).1 (ap (take 1) follows)) ∙ other)
+not_ended key text ended (Some after) is h = tt
+
+-- nor with a label if its value doesn't follow its name
+pub not_both : (key name value after : Text) (found : Option (Bor Text)) → key ≡ key_of_text name ++ after → IfNone found ((rest : Text) → after ≢ key_of_text value ++ rest)
+    → IfNone found ((rest : Text) → key ≢ key_of_label (name, value) ++ rest)
+not_both key name value after None is other = λ rest e.
+    other rest (append_cancel_left (key_of_text name) after (key_of_text value ++ rest) (sym is ∙ e ∙ append_assoc (key_of_text name) (key_of_text value) rest))
+not_both key name value after (Some more) is h = tt
+
+abbrev lent : Bor Text × Bor Text → Text × Text
+lent pair = (pair.0.now, pair.1.now)
+
+key_from : (stated : List (Bor Text × Bor Text)) (index : ℕ) (none : Bor Text × Bor Text) → index < length stated
+    → sort_key (lent_texts stated) ≡ sort_key (lent_texts (take index stated)) ++ (key_of_label (lent (get_or stated index none)) ++ sort_key (lent_texts (drop (suc index) stated)))
+key_from [] index none l = absurd (omega (arith, l))
+key_from (pair ∷ stated) zero none l = refl
+key_from (pair ∷ stated) (suc index) none l =
+    ap (λ key. key_of_label (lent pair) ++ key) (key_from stated index none (omega (arith, l)))
+    ∙ sym (append_assoc (key_of_label (lent pair)) (sort_key (lent_texts (take index stated))) _)
+
+-- a key isn't that of labels if what follows some of them isn't the next
+pub not_joined : (key rest : Text) (stated : List (Bor Text × Bor Text)) (index : ℕ) (none : Bor Text × Bor Text) → index < length stated
+    → key ≡ sort_key (lent_texts (take index stated)) ++ rest
+    → ((after : Text) → rest ≢ key_of_label (lent (get_or stated index none)) ++ after) → key ≢ sort_key (lent_texts stated)
+not_joined key rest stated index none l is other e =
+    other (sort_key (lent_texts (drop (suc index) stated)))
+    (append_cancel_left (sort_key (lent_texts (take index stated))) rest _ (sym is ∙ e ∙ key_from stated index none l))

@@ -1,6 +1,6 @@
 //! The texts of a label set with their sort key, by which label sets are compared, and their text as
 //! an object, which is printed. `Labels` shares one of these between its clones.
-ghost use Rattle.std.specs.Prelude.{◌≡◌, ◌++◌, get_or, false, true, string_bytes, IfOk, IfSome, IfNone, OnOk};
+ghost use Rattle.std.specs.Prelude.{◌≡◌, ◌≢◌, ◌++◌, List, ℕ, get_or, false, true, string_bytes, IfOk, IfSome, IfNone, OnOk};
 ghost use Rattle.std.specs.Option.{option_copied};
 ghost use Rattle.std.specs.Ordering.{eq_by_cmp};
 ghost use Rattle.amr_labels.specs.Labels.{text_cmp, label_set_cmp};
@@ -12,7 +12,7 @@ ghost use Rattle.amr_labels.specs.Lent.{lent_texts};
 ghost use Rattle.amr_labels.specs.Map as map;
 
 use crate::object_text::object_text;
-use crate::text::Text;
+use crate::text::{Text, are_stated};
 use crate::text_map::TextMap;
 use std::alloc::{AllocError, Global};
 use std::cmp::Ordering;
@@ -115,14 +115,15 @@ impl KeyedTexts {
         &self.texts
     }
 
-    /// Returns true only if these are the names and values, in their order. It compares them with
-    /// the sort key.
+    /// Returns whether these are the names and values, in their order. It compares them with the sort
+    /// key.
     pub(crate) fn has_entries(&self, stated: &[(&str, &str)]) -> bool
-        ensures { result ≡ true → map.entries self.now ≡ lent_texts stated.now }
+        ensures equal { result ≡ true → map.entries self.now ≡ lent_texts stated.now }
+        ensures other { result ≡ false → map.entries self.now ≢ lent_texts stated.now }
     {
         match &self.key {
             Some(key) => self.texts.len() == stated.len() && is_joined(key.as_str(), stated),
-            None => false,
+            None => are_stated(self.texts.entries(), stated),
         }
     }
 
@@ -211,7 +212,8 @@ fn push_text(key: &mut String, text: &Text) -> Result<(), AllocError>
 
 /// Returns whether a key is that of these names and values.
 fn is_joined(key: &str, stated: &[(&str, &str)]) -> bool
-    ensures { result ≡ true → key.now ≡ sort_key (lent_texts stated.now) }
+    ensures equal { result ≡ true → key.now ≡ sort_key (lent_texts stated.now) }
+    ensures other { result ≡ false → key.now ≢ sort_key (lent_texts stated.now) }
 {
     let mut rest = key.as_bytes();
     for (name, value) in stated {
@@ -225,14 +227,18 @@ fn is_joined(key: &str, stated: &[(&str, &str)]) -> bool
 
 /// Returns what follows the key of a name and its value, if a key begins with it.
 fn after_label<'a>(key: &'a [u8], name: &str, value: &str) -> Option<&'a [u8]>
-    ensures { IfSome result (λ rest. key.now ≡ key_of_label (name.now, value.now) ++ rest.now) }
+    ensures rest { IfSome result (λ rest. key.now
+        ≡ key_of_label (name.now, value.now) ++ rest.now) }
+    ensures none { IfNone result ((rest : List ℕ)
+        → key.now ≢ key_of_label (name.now, value.now) ++ rest) }
 {
     after_text(after_text(key, name)?, value)
 }
 
 /// Returns what follows the key of a text, if a key begins with it.
 fn after_text<'a>(key: &'a [u8], text: &str) -> Option<&'a [u8]>
-    ensures { IfSome result (λ rest. key.now ≡ key_of_text text.now ++ rest.now) }
+    ensures rest { IfSome result (λ rest. key.now ≡ key_of_text text.now ++ rest.now) }
+    ensures none { IfNone result ((rest : List ℕ) → key.now ≢ key_of_text text.now ++ rest) }
 {
     let ended = key.strip_prefix(text.as_bytes())?;
     ended.strip_prefix(&[0])

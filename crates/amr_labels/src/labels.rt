@@ -1,5 +1,5 @@
 //! Label sets, by which alerts, groups and sources of inhibition are identified.
-ghost use Rattle.std.specs.Prelude.{◌≡◌, ◌==◌, true, List, ℕ, IfOk, IfSome};
+ghost use Rattle.std.specs.Prelude.{◌≡◌, ◌≢◌, ◌==◌, true, false, List, ℕ, IfOk, IfSome};
 ghost use Rattle.std.proofs.Common.{rules};
 ghost use Rattle.std.specs.Cmp.{partial_order_from_own_ties};
 ghost use Rattle.std.specs.Cmp.Rules.{comparing};
@@ -103,10 +103,11 @@ impl Labels {
         self.texts().entries()
     }
 
-    /// Returns true only if these are the names and values, in the order of the names. It is faster
-    /// than comparing them one by one.
+    /// Returns whether these are the names and values, in the order of the names. It is faster than
+    /// comparing them one by one.
     pub fn has_entries(&self, stated: &[(&str, &str)]) -> bool
-        ensures { result ≡ true → map.entries self.now ≡ lent_texts stated.now }
+        ensures equal { result ≡ true → map.entries self.now ≡ lent_texts stated.now }
+        ensures other { result ≡ false → map.entries self.now ≢ lent_texts stated.now }
     {
         self.shared.get().has_entries(stated)
     }

@@ -1,6 +1,6 @@
 //! A text whose clones share its bytes. Labels are cloned often, into groups, the log and
 //! notifications.
-ghost use Rattle.std.specs.Prelude.{◌≡◌, IfOk};
+ghost use Rattle.std.specs.Prelude.{◌≡◌, ◌≢◌, true, false, IfOk};
 ghost use Rattle.std.proofs.Common.{rules};
 ghost use Rattle.std.specs.Cmp.{partial_order_from_own_ties};
 ghost use Rattle.std.specs.Cmp.Rules.{comparing};
@@ -8,6 +8,7 @@ ghost use Rattle.std.specs.Ordering.{as_partial_cmp, nat_cmp, eq_by_cmp};
 ghost use Rattle.std.specs.Cmp.Lexicographic.{slice_cmp};
 ghost use Rattle.amr_labels.specs.Labels.{is_empty};
 ghost use Rattle.amr_labels.specs.Hashes.{text_fnv_hash};
+ghost use Rattle.amr_labels.specs.Lent.{lent_texts};
 
 use crate::exact::Exact;
 use std::alloc::{AllocError, Global};
@@ -128,6 +129,31 @@ impl fmt::Debug for Text {
     fn fmt<W: fmt::Write>(&self, f: &mut fmt::Formatter<W>) -> fmt::Result {
         fmt::Debug::fmt(&self.as_str(), f)
     }
+}
+
+/// Returns whether these are the same names and texts, in the same order.
+pub fn are_stated(pairs: &[(Text, Text)], stated: &[(&str, &str)]) -> bool
+    ensures equal { result ≡ true → pairs.now ≡ lent_texts stated.now }
+    ensures other { result ≡ false → pairs.now ≢ lent_texts stated.now }
+{
+    if pairs.len() != stated.len() {
+        return false;
+    }
+    for (index, pair) in pairs.iter().enumerate() {
+        let (name, text) = stated[index];
+        if !is_stated(pair, name, text) {
+            return false;
+        }
+    }
+    true
+}
+
+/// Returns whether this is the same name and text.
+fn is_stated(pair: &(Text, Text), name: &str, text: &str) -> bool
+    ensures equal { result ≡ true → pair.now ≡ (name.now, text.now) }
+    ensures other { result ≡ false → pair.now ≢ (name.now, text.now) }
+{
+    pair.0.as_str() == name && pair.1.as_str() == text
 }
 
 /// Returns FNV-1a, the hash of Fowler, Noll and Vo, of the bytes of a text.

@@ -13,7 +13,7 @@ from_own m =
 
 pub returns-in-Some : goal.returns-in-Some
 returns-in-Some c =
-    let stated = c.are_stated.ensures c.if-are_stated.true in
+    let stated = c.are_stated.ensures.equal c.if-are_stated.true in
     c.in_ok-clone-in-Some.ensures.cases
     ∙ from_own c.in-Some.cached.now
     ∙ ap (λ pairs. from_entries (reverse pairs)) (sym c.entries.ensures ∙ stated)
