@@ -1,10 +1,9 @@
 //! A configuration that caches, of each label set it has seen, the groups and the sides of the
-//! inhibition rules. The state of a replay holds it in place of the configuration, so that what was
-//! worked out travels with the configuration through a reload and back. Contracts see nothing of
-//! what it caches.
-ghost use Rattle.std.specs.Prelude.{◌≡◌, ◌<◌, length, IfOk, OnOk, IfSome};
-ghost use Rattle.amr_config.specs.Groups.{groups_of, group_at, routing_to_cache, IsCacheOf};
-ghost use Rattle.amr_config.specs.Stated.Config.{Config};
+//! inhibition rules. The state of a replay holds it in place of the configuration. A reload, and
+//! undoing it, hand on what was worked out if the two configurations are alike. Contracts see nothing
+//! of what it caches.
+ghost use Rattle.std.specs.Prelude.{◌≡◌, IfOk, IfSome};
+ghost use Rattle.amr_config.specs.Groups.{groups_of, group_at, routing_to_cache};
 ghost use Rattle.amr_config.specs.Stated.RuleMatches.{rule_matches};
 
 use crate::config::Config;
@@ -14,6 +13,7 @@ use crate::routing::chosen_routes;
 use crate::stated::{RuleMatch, rule_matches};
 use amr_labels::matcher::MatchCache;
 use amr_labels::{LabelMap, Labels, Listing, Shared};
+use amr_tables::make_place;
 use std::alloc::{AllocError, Global};
 use std::marker::Model;
 use std::mem;
@@ -236,18 +236,6 @@ impl Router {
         self.sides.insert(kept, sides)?;
         Ok(())
     }
-}
-
-/// Makes a place for what is cached of the label set with a number, unless there is one.
-fn make_place(cache: &mut Vec<Option<CachedRouting>>, number: usize) -> Result<(), AllocError>
-    ensures place { OnOk result (number < length cache.new.items) }
-    ensures cached { (config : Config) → IsCacheOf config cache.old.items
-        → IsCacheOf config cache.new.items }
-{
-    while cache.len() <= number {
-        cache.push(None)?;
-    }
-    Ok(())
 }
 
 /// Works out which sides of the configuration's inhibition rules these labels are on.

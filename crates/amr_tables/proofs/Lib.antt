@@ -12,3 +12,4 @@ pub mod Queueing
 pub mod Firsts
 pub mod Keying
 pub mod Naming
+pub mod Emptying
