@@ -189,7 +189,8 @@ impl Engine {
     pub fn cache_sources(&mut self, labels: &Labels) -> Result<(), AllocError>
         ensures { self.new ≡ self.old }
     {
-        cache_sources(&mut self.store, labels)
+        let number = self.store.number_of(labels);
+        cache_sources(&mut self.store, number, labels)
     }
 
     /// Explains why an alert with these labels was or wasn't in a notification. It returns one

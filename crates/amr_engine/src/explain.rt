@@ -142,7 +142,8 @@ fn first_finding(
     if let Some(found) = waiting(timer) {
         return Ok(found);
     }
-    if let Some(found) = taken_away(store, store.moment(), group.route, labels)? {
+    let number = store.number_of(labels);
+    if let Some(found) = taken_away(store, store.moment(), group.route, number, labels)? {
         return Ok(found);
     }
     heard(store, group, labels, timer, integration)

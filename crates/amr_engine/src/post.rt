@@ -51,8 +51,8 @@ fn put(
     ensures grown { GrownBy (alert_weight store.old.state.config labels.now) store.old store.new }
     ensures cache { OnOk result (IsTrueOf quiet_groups.new store.new.state) }
 {
-    let stored = store.put_alert(labels, alert)?;
-    let groups = store.groups_of(labels)?;
+    let (number, stored) = store.put_alert(labels, alert)?;
+    let groups = store.groups_of(Some(number), labels)?;
     let groups = groups.get().as_slice();
     quiet_groups.forget_joined(groups);
     insert_into_each(store, groups, labels, &stored)

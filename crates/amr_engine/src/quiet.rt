@@ -145,7 +145,7 @@ impl QuietGroups {
         requires still { IsStill store.now.state at until }
         ensures { IsTrueOf self.new store.now.state }
     {
-        let alerts = store.alerts().arrived().len();
+        let alerts = store.alerts().by_number().next_number();
         self.still = Some(Period::new(at, until));
         self.budget
             .note_scan(alerts.saturating_add(store.silences().next_number()));

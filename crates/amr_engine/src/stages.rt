@@ -12,18 +12,19 @@ use amr_rules::inhibited_by;
 use amr_time::Moment;
 use std::alloc::AllocError;
 
-/// Returns the first stage that mutes an alert with these labels on a route: inhibition, active
-/// time intervals, mute time intervals, silences. Returns `None` if none does.
+/// Returns the first stage that mutes the alert of the label set with a number on a route:
+/// inhibition, active time intervals, mute time intervals, silences. Returns `None` if none does.
 #[tactic(auto, unfolding(crate::specs::Stages::taken_away))]
 pub(crate) fn taken_away(
     store: &Store,
     at: Moment,
     route: usize,
+    number: Option<usize>,
     labels: &Labels,
 ) -> Result<Option<Finding>, AllocError>
     ensures { IfOk result (λ found. found ≡ taken_away store.now.state at route labels.now) }
 {
-    if let Some((rule, source)) = inhibition(store, at, labels)? {
+    if let Some((rule, source)) = inhibition(store, at, number, labels)? {
         return Ok(Some(Finding::Inhibited { rule, source }));
     }
     let config = store.config();
@@ -33,7 +34,7 @@ pub(crate) fn taken_away(
     if config.is_muted_at(route, at) {
         return Ok(Some(Finding::TimeMuted));
     }
-    match store.silenced_by(at, labels)? {
+    match store.silenced_by(at, number, labels)? {
         Some(id) => Ok(Some(Finding::Silenced { id })),
         None => Ok(None),
     }
@@ -54,33 +55,48 @@ pub(crate) fn let_through(
 {
     let mut through = Vec::with_capacity(store.alloc(), members.len())?;
     for (labels, alert) in members {
-        store.cache_silences(at, labels);
-        cache_sources(store, labels)?;
-        if taken_away(store, at, route, labels)?.is_none() {
+        let number = number_to_mute(store, labels);
+        store.cache_silences(at, number, labels);
+        cache_sources(store, number, labels)?;
+        if taken_away(store, at, route, number, labels)?.is_none() {
             through.push((labels.clone()?, alert.clone()?))?;
         }
     }
     Ok(through)
 }
 
-/// Works out which label sets can be sources of the rules that have these labels as a target, where
-/// that isn't cached. Without rules it looks nothing up.
-pub(crate) fn cache_sources(store: &mut Store, labels: &Labels) -> Result<(), AllocError>
+/// Returns the number of a label set, at which what mutes it is cached. Without rules and silences it
+/// looks nothing up.
+fn number_to_mute(store: &Store, labels: &Labels) -> Option<usize> {
+    if store.config().rules().is_empty() && store.silences().values().next().is_none() {
+        return None;
+    }
+    store.number_of(labels)
+}
+
+/// Works out which label sets can be sources of the rules that have the label set with a number as
+/// a target, where that isn't cached. Without rules it looks nothing up.
+pub(crate) fn cache_sources(
+    store: &mut Store,
+    number: Option<usize>,
+    labels: &Labels,
+) -> Result<(), AllocError>
     ensures { store.new ≡ store.old }
 {
     if store.config().rules().is_empty() {
         return Ok(());
     }
-    let matched = store.rule_matches(labels)?;
+    let matched = store.rule_matches(number, labels)?;
     store.cache_sources(matched.get().as_slice());
     Ok(())
 }
 
-/// Returns the inhibition rule that mutes an alert with these labels, and the labels of the alert
-/// by which it does. Without rules it looks nothing up.
+/// Returns the inhibition rule that mutes the alert of the label set with a number, and the labels
+/// of the alert by which it does. Without rules it looks nothing up.
 fn inhibition(
     store: &Store,
     at: Moment,
+    number: Option<usize>,
     labels: &Labels,
 ) -> Result<Option<(usize, Labels)>, AllocError>
     ensures { IfOk result (λ found. found ≡ inhibition_from 0 at labels.now
@@ -90,7 +106,7 @@ fn inhibition(
     if rules.is_empty() {
         return Ok(None);
     }
-    let matched = store.rule_matches(labels)?;
+    let matched = store.rule_matches(number, labels)?;
     let matched = matched.get().as_slice();
     inhibited_by(store.alloc(), rules, matched, store.alerts(), at, labels)
 }

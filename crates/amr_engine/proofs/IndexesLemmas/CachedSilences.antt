@@ -1,6 +1,6 @@
 -- What the table of silences caches of label sets: nothing at first, then more, and less after
 -- each change of a silence.
-use Rattle.std.proofs.Common.{◌≡◌, ◌≤◌, ◌<◌, ◌+◌, ℕ, Bool, true, false, cond, List, [], ◌∷◌, ◌++◌, length, get_or, map, Option, Some, None, arith, refl, sym, ap, subst, ◌∙◌}
+use Rattle.std.proofs.Common.{◌≡◌, ◌≤◌, ◌<◌, ◌+◌, ℕ, Bool, true, false, cond, List, [], ◌∷◌, ◌++◌, length, get_or, map, Bor, Option, Some, None, arith, refl, sym, ap, subst, ◌∙◌}
 use Rattle.std.specs.Prelude.{◌==◌, IfSome}
 use Rattle.std.proofs.lemmas.Bool.Decides.{nat_tests}
 use Rattle.std.proofs.lemmas.List.{get_or-map, length-map}
@@ -9,12 +9,14 @@ use Rattle.std.proofs.Math.ListN.{get_or-append}
 use Rattle.std.proofs.Math.Seq.{get_or-append_seam}
 use Rattle.std.specs.declared.cmp.Ordering.TheVariants.{Less, Equal, Greater}
 use Rattle.std.specs.List.{filter}
+use Rattle.std.specs.Slice.{IsItemAt}
+use Rattle.std.proofs.lemmas.List.Elements.{All-nil, All-weaker}
 use Rattle.std.specs.Ordering.{is_eq, nat_cmp}
 use Rattle.std.specs.declared.cmp.Ordering.{Ordering}
 use Rattle.std.specs.Cmp.{nat_cmp_total, tied_itself}
 use Rattle.std.specs.FinMap.{nat_cmp-IsAntisymmetric}
-use Rattle.amr_labels.specs.Map.{Map, entries, empty, get, set, retain_keys, entries-retain_keys, get-empty, get-set, get-retain_keys, same_map}
-use Rattle.amr_labels.specs.Labels.{LabelSet, label_set_cmp, label_set_cmp_total, label_set_cmp-IsAntisymmetric}
+use Rattle.amr_labels.specs.Map.{entries, get, set, retain_keys, entries-retain_keys, get-set, get-retain_keys, same_map}
+use Rattle.amr_labels.specs.Labels.{LabelSet}
 use Rattle.amr_labels.specs.Matcher.ValueBits.{value_bits}
 use Rattle.amr_time.specs.Time.{Moment}
 use Rattle.amr_rules.specs.declared.silence.Silence.{Silence}
@@ -110,20 +112,18 @@ one_less old changed changes found id was same =
           ∙ same_picked test found.from found.labels id old changed same (ap test (sym (get_or-append_seam changes id [] 0)) ∙ none (length changes) version (omega arith));
     }
 
-cached_less : (old changed : Silences) (changes : List ℕ) (cached : Map label_set_cmp CachedPeriods) (id : ℕ) → AreCached old changes cached → SameOthers id old changed
-    → AreCached changed (changes ++ id ∷ []) cached
-cached_less old changed changes cached id are_cached same = λ labels found there.
-    let own = are_cached labels found there in
-    (own.0, one_less old changed changes found id own.1 same)
+still_at : (old changed : Silences) (changes : List ℕ) (id : ℕ) → SameOthers id old changed → (place : Option CachedPeriods) → IfSome place (IsCached old changes) → IfSome place (IsCached changed (changes ++ id ∷ []))
+still_at old changed changes id same None was = tt
+still_at old changed changes id same (Some found) was = one_less old changed changes found id was same
 
 one_more_id : (changes : List SilenceChange) (change : SilenceChange) → changed_ids (changes ++ change ∷ []) ≡ changed_ids changes ++ change.id ∷ []
 one_more_id [] change = refl
 one_more_id (first ∷ changes) change = ap (λ l. first.id ∷ l) (one_more_id changes change)
 
-pub cached_still : (old changed : Silences) (changes : List SilenceChange) (cached : Map label_set_cmp CachedPeriods) (change : SilenceChange) → SameOthers change.id old changed
+pub cached_still : (old changed : Silences) (changes : List SilenceChange) (cached : List (Option CachedPeriods)) (change : SilenceChange) → SameOthers change.id old changed
     → AreCached old (changed_ids changes) cached → AreCached changed (changed_ids (changes ++ change ∷ [])) cached
 cached_still old changed changes cached change same are_cached =
-    subst (λ (ids : List ℕ). AreCached changed ids cached) (sym (one_more_id changes change)) (cached_less old changed (changed_ids changes) cached change.id are_cached same)
+    subst (λ (ids : List ℕ). AreCached changed ids cached) (sym (one_more_id changes change)) (All-weaker _ _ (still_at old changed (changed_ids changes) change.id same) cached are_cached)
 
 pub id_at : (changes : List SilenceChange) (i : ℕ) (change : SilenceChange) → i < length changes → get_or changes i change ≡ change → get_or (changed_ids changes) i 0 ≡ change.id
 id_at changes i change lt is = get_or-map (λ (c : SilenceChange). c.id) changes i change 0 lt ∙ ap (λ (c : SilenceChange). c.id) is
@@ -157,22 +157,15 @@ noted_more old changed changes change same own was =
 pub none_noted : (silences : Silences) (changes : List SilenceChange) → changes ≡ [] → AreNoted silences changes
 none_noted silences changes none = record { latest = λ i one test lt is picks later. absurd (none_before_zero i (subst (λ (l : List SilenceChange). i < length l) none lt)) }
 
-pub none_cached : (silences : Silences) (changes : List ℕ) (cached : Map label_set_cmp CachedPeriods) → cached ≡ empty → AreCached silences changes cached
-none_cached silences changes cached none = λ labels found there.
-    let nothing : get cached labels ≡ None = ap (λ (m : Map label_set_cmp CachedPeriods). get m labels) none ∙ get-empty label_set_cmp labels in
-    absurd (cc (there, nothing))
+pub none_cached : (silences : Silences) (changes : List ℕ) (cached : List (Option CachedPeriods)) → cached ≡ [] → AreCached silences changes cached
+none_cached silences changes cached none = subst (AreCached silences changes) (sym none) (All-nil (λ place. IfSome place (IsCached silences changes)))
 
--- what is cached of one label set is another, or nothing
-pub cached_set : (silences : Silences) (changes : List ℕ) (before after : Map label_set_cmp CachedPeriods) (labels : LabelSet) (other : Option CachedPeriods) → after ≡ set before labels other
-    → IfSome other (λ found. (found.labels ≡ labels) × IsCached silences changes found) → AreCached silences changes before → AreCached silences changes after
-cached_set silences changes before after labels other is right are_cached = λ asked found there.
-    elim (label_set_cmp asked labels) as (λ o. label_set_cmp asked labels ≡ o → cond (is_eq o) other (get before asked) ≡ Some found → (found.labels ≡ asked) × IsCached silences changes found) [
-      | Less ↦ λ tie at. are_cached asked found at
-      | Equal ↦ λ tie at.
-          let own = subst (λ (o : Option CachedPeriods). IfSome o (λ found. (found.labels ≡ labels) × IsCached silences changes found)) at right in
-          (own.0 ∙ sym (label_set_cmp-IsAntisymmetric asked labels tie), own.1)
-      | Greater ↦ λ tie at. are_cached asked found at
-    ] refl (sym (ap (λ (m : Map label_set_cmp CachedPeriods). get m asked) is ∙ get-set label_set_cmp_total before labels other asked) ∙ there)
+-- what is found at a place is right
+pub cached_found : (silences : Silences) (changes : List ℕ) (cached : List (Option CachedPeriods)) (n : ℕ) (place : Bor (Option CachedPeriods)) (found : CachedPeriods) → AreCached silences changes cached
+    → IsItemAt cached n (Some place) → place.now ≡ Some found → IsCached silences changes found
+cached_found silences changes cached n place found are_cached at some =
+    let right : Option CachedPeriods → Type 0 = λ place. IfSome place (IsCached silences changes) in
+    subst right some (subst right (sym (at.4 (omega arith) None)) (are_cached n None at.3.0))
 
 -- what was worked out just now is cached
 pub filled : (silences : Silences) (changes : List ℕ) (found : CachedPeriods) → found.periods ≡ silence_periods found.from found.labels silences → found.version ≡ length changes

@@ -1,9 +1,9 @@
 -- What the table of silences caches of label sets.
-use Rattle.std.specs.Prelude.{◌≡◌, ◌≢◌, ◌≤◌, ◌<◌, ℕ, Bool, false, not, List, ◌∷◌, ◌++◌, ◌+◌, length, map, drop, get_or, Option, Some, None, if◌then◌else◌, nat_lt, ◌&&◌, ◌==◌, bit_or, IsTrue}
-use Rattle.std.specs.List.{filter, list_any, prefix_len}
+use Rattle.std.specs.Prelude.{◌≡◌, ◌≢◌, ◌≤◌, ◌<◌, ℕ, Bool, false, not, List, ◌∷◌, ◌++◌, ◌+◌, length, map, drop, get_or, Option, Some, None, IfSome, if◌then◌else◌, nat_lt, ◌&&◌, ◌==◌, bit_or, IsTrue}
+use Rattle.std.specs.List.{All, filter, list_any, prefix_len}
 use Rattle.std.specs.Ordering.{nat_cmp, eq_by_cmp, is_lt}
-use Rattle.amr_labels.specs.Map.{Map, get}
-use Rattle.amr_labels.specs.Labels.{LabelSet, label_set_cmp}
+use Rattle.amr_labels.specs.Map.{get}
+use Rattle.amr_labels.specs.Labels.{LabelSet}
 use Rattle.amr_labels.specs.Matcher.ValueBits.{value_bits, required_bits}
 use Rattle.amr_time.specs.Time.{Moment}
 use Rattle.amr_rules.specs.declared.silence.Silence.{Silence}
@@ -93,9 +93,9 @@ pub record IsCached (silences : Silences) (changes : List ℕ) (found : CachedPe
   pub bits : found.bits ≡ value_bits found.labels
   pub others : (test : ℕ → Bool) → PicksNone test changes found.version → periods_picked test found.periods ≡ periods_picked test (silence_periods found.from found.labels silences)
 
--- what is cached of each label set is its own, and right
-abbrev pub AreCached : Silences → List ℕ → Map label_set_cmp CachedPeriods → Type 0
-AreCached silences changes cached = (labels : LabelSet) (found : CachedPeriods) → get cached labels ≡ Some found → (found.labels ≡ labels) × IsCached silences changes found
+-- all that is cached of label sets is right
+abbrev pub AreCached : Silences → List ℕ → List (Option CachedPeriods) → Type 0
+AreCached silences changes cached = All (λ place. IfSome place (IsCached silences changes)) cached
 
 -- only the silence with this id may have changed
 abbrev pub SameOthers : ℕ → Silences → Silences → Type 0

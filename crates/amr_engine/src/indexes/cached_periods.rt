@@ -1,7 +1,7 @@
 //! What is cached of a label set: when the silences that match it are active. When silences change,
 //! only those are asked that did. `silence_table.rt` keeps one of these for each label set that
 //! flushes asked about.
-ghost use Rattle.std.specs.Prelude.{◌≡◌, ◌≤◌, ◌++◌, ◌∷◌, [], length, OnOk, OnErr, IfOk, option_map, if◌then◌else◌, Some, None};
+ghost use Rattle.std.specs.Prelude.{◌≡◌, ◌≤◌, ◌++◌, ◌∷◌, [], length, OnOk, OnErr, IfOk, IfSome, option_map, if◌then◌else◌, Some, None};
 ghost use Rattle.std.specs.List.{filter};
 ghost use Rattle.std.specs.Ordering.{nat_cmp};
 ghost use Rattle.amr_labels.specs.Map.{get};
@@ -214,6 +214,32 @@ impl CachedPeriods {
             self.periods = without(alloc, self.periods.as_slice(), id)?;
         }
         Ok(())
+    }
+}
+
+/// Returns whether what is cached at a place is of these labels and complete from a moment on. It
+/// first takes in the changes of silences.
+pub(crate) fn is_caught_up(
+    place: &mut Option<CachedPeriods>,
+    alloc: Global,
+    answers: &mut MatchCache,
+    silences: &Keyed<SilenceId, Silence>,
+    changes: &[SilenceChange],
+    at: Moment,
+    labels: &Labels,
+) -> Result<bool, AllocError>
+    requires noted { AreNoted (map_of nat_cmp silences.now) changes.now }
+    requires cached { IfSome place.old
+        (IsCached (map_of nat_cmp silences.now) (changed_ids changes.now)) }
+    ensures { IfSome place.new
+        (IsCached (map_of nat_cmp silences.now) (changed_ids changes.now)) }
+{
+    match place {
+        Some(cached) if cached.from <= at && cached.labels == *labels => {
+            cached.catch_up(alloc, answers, silences, changes, at)?;
+            Ok(true)
+        }
+        _ => Ok(false),
     }
 }
 

@@ -117,13 +117,6 @@ impl RuleSources {
         Ok(())
     }
 
-    /// Returns the label sets in the order in which they came.
-    pub(crate) fn arrived(&self) -> &[Labels]
-        ensures { result.now ≡ self.now }
-    {
-        self.arrived.as_slice()
-    }
-
     /// Returns the label sets that match a rule's source matchers and agree with a target on the
     /// labels in `equal`; if none does, the second option may be `None`. Returns `None` if the
     /// rule's side isn't cached, or not of all label sets.

@@ -2,23 +2,22 @@
 //! of the silences that match them. `store.rt` changes the table and asks it which silence mutes.
 ghost use Rattle.std.specs.Prelude.{◌≡◌, ◌≤◌, [], Some, is_some, OnOk, IfOk, IfSome};
 ghost use Rattle.std.specs.Ordering.{nat_cmp};
-ghost use Rattle.amr_labels.specs.Labels.{label_set_cmp};
 ghost use Rattle.amr_labels.specs.Map as map;
 ghost use Rattle.amr_rules.specs.Muting.{is_silenced, silencer_of};
 ghost use Rattle.amr_rules.specs.SilencePeriods.{silence_periods, silence_rows, silenced_in, unexpired_silences};
 ghost use Rattle.amr_rules.specs.Silences.{Silences};
 ghost use Rattle.amr_tables.specs.Numbered.{map_of, number_of, is_entered, Enters, KeepsPlaces, SamePlaces, SameEntered, NoneEntered};
 
-use crate::indexes::cached_periods::CachedPeriods;
+use crate::indexes::cached_periods::{CachedPeriods, is_caught_up};
 use crate::indexes::silence_change::SilenceChange;
 use amr_events::posts::SilenceId;
 use amr_labels::matcher::{MatchCache, value_bits};
 use amr_labels::{Labels, Listing};
 use amr_rules::{
-    Silence, SilencePeriod, SilenceRow, periods_at, silence_periods, silence_rows, silenced_by,
-    silenced_in, unexpired,
+    Alert, Silence, SilencePeriod, SilenceRow, periods_at, silence_periods, silence_rows,
+    silenced_by, silenced_in, unexpired,
 };
-use amr_tables::Keyed;
+use amr_tables::{Keyed, make_place};
 use amr_time::Moment;
 use std::alloc::{AllocError, Global};
 use std::marker::Model;
@@ -44,11 +43,11 @@ pub struct SilenceTable {
     silences: Keyed<SilenceId, Silence>,
     /// What the patterns of the silences' matchers answered.
     answers: MatchCache,
-    /// What is cached of label sets.
-    cached: Keyed<Labels, CachedPeriods>,
+    /// What is cached of label sets, by their numbers among the stored alerts.
+    cached: Vec<Option<CachedPeriods>>,
     /// The changes of silences since the table began to cache, the latest last.
     changes: Vec<SilenceChange>,
-    /// The number of label sets, in the order of arrival, that the silences were asked ahead for.
+    /// The number of label sets that the silences were asked ahead for, the first ones.
     asked_ahead: usize,
     /// The silences that are left to ask, if they were listed since the last change.
     unexpired: Option<Unexpired>,
@@ -68,7 +67,6 @@ impl Model for SilenceTable {
     ghost use Rattle.std.specs.Prelude.{ℕ};
     ghost use Rattle.std.specs.Coded.{codes};
     ghost use Rattle.amr_labels.specs.Map as map;
-    ghost use Rattle.amr_labels.specs.Labels.{label_set_cmp};
     ghost use Rattle.amr_rules.specs.declared.silence.Silence.{Silence};
     ghost use Rattle.std.specs.Ordering.{nat_cmp};
     ghost use Rattle.amr_tables.specs.Numbered.{Numbered, map_of};
@@ -82,7 +80,7 @@ impl Model for SilenceTable {
 
     ghost invariant = { λ t.
         AreCached (map_of nat_cmp t.silences) (changed_ids t.changes.items)
-        (map_of label_set_cmp t.cached)
+        t.cached.items
         × AreUnexpired (map_of nat_cmp t.silences) t.unexpired
         × AreNoted (map_of nat_cmp t.silences) t.changes.items };
 }
@@ -97,7 +95,7 @@ impl SilenceTable {
             alloc,
             silences: Keyed::new(alloc),
             answers: MatchCache::new(alloc),
-            cached: Keyed::new(alloc),
+            cached: Vec::new(alloc),
             changes: Vec::new(alloc),
             asked_ahead: 0,
             unexpired: None,
@@ -112,28 +110,40 @@ impl SilenceTable {
     }
 
     /// Returns the least id of a silence that mutes labels at a moment, or `None` if no silence
-    /// does. It asks the silences' matchers only for labels of which it caches nothing.
-    pub fn silenced_by(&self, at: Moment, labels: &Labels) -> Result<Option<SilenceId>, AllocError>
+    /// does. It asks the silences' matchers only for labels of which it caches nothing at their
+    /// number.
+    pub fn silenced_by(
+        &self,
+        at: Moment,
+        number: Option<usize>,
+        labels: &Labels,
+    ) -> Result<Option<SilenceId>, AllocError>
         ensures named { IfOk result (λ found. found
             ≡ silencer_of at labels.now (map_of nat_cmp self.now)) }
         ensures exactly { IfOk result (λ found. is_silenced (map_of nat_cmp self.now) at labels.now
             ≡ is_some found) }
     {
-        match self.periods(at, labels) {
+        match self.periods(at, number, labels) {
             Some(periods) => Ok(silenced_in(at, periods)),
             None => silenced_by(self.alloc, &self.silences, at, labels),
         }
     }
 
-    /// Works out when silences that match a label set are active from a moment on, and caches it. It
-    /// does nothing if that is cached or no silence is stored. If it isn't and many label sets
-    /// arrived, it first asks for those that arrived, which the next flushes most likely meet: the
+    /// Works out when silences that match the label set with a number are active from a moment on, and
+    /// caches it. It does nothing if that is cached or no silence is stored. If it isn't and many
+    /// label sets are new, it first asks for those, which the next flushes most likely meet: the
     /// search of each pattern is then prepared once for all. If there is no room, it forgets what it
     /// caches of label sets.
-    pub fn cache(&mut self, at: Moment, labels: &Labels, arrived: &[Labels])
+    pub fn cache(
+        &mut self,
+        at: Moment,
+        number: usize,
+        labels: &Labels,
+        alerts: &Keyed<Labels, Alert>,
+    )
         ensures { self.new ≡ self.old }
     {
-        if self.cache_missing(at, labels, arrived).is_err() {
+        if self.cache_missing(at, number, labels, alerts).is_err() {
             self.forget();
         }
     }
@@ -151,110 +161,108 @@ impl SilenceTable {
     }
 
     /// Works out when silences that match a label set are active, and caches it, if it isn't cached.
-    /// It may do so for others that arrived.
+    /// It may do so for others that are new.
     fn cache_missing(
         &mut self,
         at: Moment,
+        number: usize,
         labels: &Labels,
-        arrived: &[Labels],
+        alerts: &Keyed<Labels, Alert>,
     ) -> Result<(), AllocError>
         ensures { self.new ≡ self.old }
     {
-        if self.silences.values().next().is_none() || self.is_cached(at, labels)? {
+        if self.silences.values().next().is_none() || self.is_cached(at, number, labels)? {
             return Ok(());
         }
-        if arrived.len().saturating_sub(self.asked_ahead) >= FEWEST_AT_ONCE {
-            self.ask_ahead(at, arrived)?;
-            if self.is_cached(at, labels)? {
+        if alerts.next_number().saturating_sub(self.asked_ahead) >= FEWEST_AT_ONCE {
+            self.ask_ahead(at, alerts)?;
+            if self.is_cached(at, number, labels)? {
                 return Ok(());
             }
         }
-        self.cache_one(at, labels)
+        self.cache_one(at, number, labels)
     }
 
-    /// Works out the same for the label sets that arrived since it last did, up to as many as are asked
-    /// for at once, unless few of them are missing.
-    fn ask_ahead(&mut self, at: Moment, arrived: &[Labels]) -> Result<(), AllocError>
+    /// Works out the same for the label sets that got their numbers since it last did, up to as many
+    /// as are asked for at once, unless few of them are missing.
+    fn ask_ahead(&mut self, at: Moment, alerts: &Keyed<Labels, Alert>) -> Result<(), AllocError>
         ensures { self.new ≡ self.old }
     {
-        let start = self.asked_ahead;
-        let end = arrived.len().min(start.saturating_add(MOST_AT_ONCE));
-        if end <= start {
-            return Ok(());
-        }
+        let first = self.asked_ahead;
+        let end = alerts.next_number().min(first.saturating_add(MOST_AT_ONCE));
+        let label_sets = label_sets_from(self.alloc, alerts, first, end)?;
         self.asked_ahead = end;
-        let missing = self.missing(at, &arrived[start..end])?;
-        if missing.len() < FEWEST_AT_ONCE {
+        if self.missing(at, first, label_sets.as_slice())? < FEWEST_AT_ONCE {
             return Ok(());
         }
-        self.cache_many(at, missing.as_slice())
+        self.cache_many(at, first, label_sets.as_slice())
     }
 
-    /// Returns those of the label sets of which nothing is cached at a moment.
-    fn missing(&mut self, at: Moment, label_sets: &[Labels]) -> Result<Vec<Labels>, AllocError>
+    /// Returns of how many of the label sets with numbers from `first` on nothing is cached at a
+    /// moment.
+    fn missing(
+        &mut self,
+        at: Moment,
+        first: usize,
+        label_sets: &[Labels],
+    ) -> Result<usize, AllocError>
         ensures { self.new ≡ self.old }
     {
-        let mut missing = Vec::new(self.alloc);
-        for labels in label_sets {
-            if !self.is_cached(at, labels)? {
-                missing.push(labels.clone()?)?;
+        let mut missing: usize = 0;
+        for (index, labels) in label_sets.iter().enumerate() {
+            if !self.is_cached(at, first.saturating_add(index), labels)? {
+                missing = missing.saturating_add(1);
             }
         }
         Ok(missing)
     }
 
-    /// Returns whether it is cached of labels, from a moment on, when silences that match them are
-    /// active. It first asks the silences that changed since that was cached. If memory runs out, it
-    /// forgets the labels.
-    fn is_cached(&mut self, at: Moment, labels: &Labels) -> Result<bool, AllocError>
+    /// Returns whether it is cached of labels, at their number and from a moment on, when silences
+    /// that match them are active. It first asks the silences that changed since that was cached.
+    fn is_cached(&mut self, at: Moment, number: usize, labels: &Labels) -> Result<bool, AllocError>
         ensures { self.new ≡ self.old }
     {
-        let (Some(number), Some(cached)) = self.cached.look_up_number(labels) else {
-            return Ok(false);
-        };
-        if at < cached.from {
+        if number >= self.cached.len() {
             return Ok(false);
         }
-        if cached.version == self.changes.len() {
-            return Ok(true);
-        }
-        let mut taken = None;
-        self.cached.swap_at(number, &mut taken);
-        let Some(mut cached) = taken else {
-            return Ok(false);
-        };
-        cached.catch_up(
+        is_caught_up(
+            &mut self.cached[number],
             self.alloc,
             &mut self.answers,
             &self.silences,
             self.changes.as_slice(),
             at,
-        )?;
-        self.cached.swap_at(number, &mut Some(cached));
-        Ok(true)
+            labels,
+        )
     }
 
     /// Works out when silences that match a label set are active, and caches it. It asks only
     /// silences that aren't expired, keeps the list of them until a silence changes, and caches the
     /// answers of patterns.
-    fn cache_one(&mut self, at: Moment, labels: &Labels) -> Result<(), AllocError>
+    fn cache_one(&mut self, at: Moment, number: usize, labels: &Labels) -> Result<(), AllocError>
         ensures { self.new ≡ self.old }
     {
         let kept = self.unexpired_at(at)?;
         let listed = kept.listed.as_slice();
         let periods = silence_periods(self.alloc, &mut self.answers, listed, at, labels);
         self.unexpired = Some(kept);
-        self.insert(at, labels, periods?)
+        self.insert(at, number, labels, periods?)
     }
 
-    /// Works out the same for many label sets. It prepares one search of each pattern for all.
-    fn cache_many(&mut self, at: Moment, label_sets: &[Labels]) -> Result<(), AllocError>
+    /// Works out the same for many label sets, with numbers from `first` on. It prepares one search of
+    /// each pattern for all.
+    fn cache_many(
+        &mut self,
+        at: Moment,
+        first: usize,
+        label_sets: &[Labels],
+    ) -> Result<(), AllocError>
         ensures { self.new ≡ self.old }
     {
         let kept = self.unexpired_at(at)?;
         let rows = silence_rows(self.alloc, kept.listed.as_slice(), at, label_sets);
         self.unexpired = Some(kept);
-        self.cache_rows(at, label_sets, rows?.as_slice())
+        self.cache_rows(at, first, label_sets, rows?.as_slice())
     }
 
     /// Takes the list of the silences that aren't expired at a moment or weren't before. It makes a
@@ -274,10 +282,11 @@ impl SilenceTable {
         }
     }
 
-    /// Caches the silences that rows list for each of these label sets.
+    /// Caches the silences that rows list for each of these label sets, with numbers from `first` on.
     fn cache_rows(
         &mut self,
         at: Moment,
+        first: usize,
         label_sets: &[Labels],
         rows: &[SilenceRow],
     ) -> Result<(), AllocError>
@@ -286,15 +295,16 @@ impl SilenceTable {
     {
         for (index, labels) in label_sets.iter().enumerate() {
             let periods = periods_at(self.alloc, rows, index)?;
-            self.insert(at, labels, periods)?;
+            self.insert(at, first.saturating_add(index), labels, periods)?;
         }
         Ok(())
     }
 
-    /// Caches when the silences that match labels are active from a moment on.
+    /// Caches when the silences that match labels are active from a moment on, at their number.
     fn insert(
         &mut self,
         at: Moment,
+        number: usize,
         labels: &Labels,
         periods: Listing<SilencePeriod>,
     ) -> Result<(), AllocError>
@@ -308,21 +318,30 @@ impl SilenceTable {
             version: self.changes.as_slice().len(),
             periods,
         };
-        self.cached.insert(labels.clone()?, cached)?;
+        make_place(&mut self.cached, number)?;
+        self.cached[number] = Some(cached);
         Ok(())
     }
 
-    /// Returns what is cached of labels, if it reaches back to a moment and no silence changed
-    /// since: when the silences that match them are active.
-    fn periods(&self, at: Moment, labels: &Labels) -> Option<&[SilencePeriod]>
+    /// Returns what is cached of labels at their number, if it reaches back to a moment and no silence
+    /// changed since: when the silences that match them are active.
+    fn periods(
+        &self,
+        at: Moment,
+        number: Option<usize>,
+        labels: &Labels,
+    ) -> Option<&[SilencePeriod]>
         ensures { IfSome result (λ periods. silenced_in at periods.now
             ≡ silencer_of at labels.now (map_of nat_cmp self.now)) }
     {
-        let cached = self.cached.get(labels)?;
-        if at < cached.from || cached.version != self.changes.len() {
-            return None;
+        let version = self.changes.len();
+        match self.cached.get(number?) {
+            Some(Some(cached))
+                if cached.from <= at && cached.version == version && cached.labels == *labels => {
+                Some(cached.periods.as_slice())
+            }
+            _ => None,
         }
-        Some(cached.periods.as_slice())
     }
 
     /// Clears the marks of all places, so that the open record takes their next change again. It
@@ -379,14 +398,14 @@ impl SilenceTable {
 /// changes, or if there is no room for one more. It takes no memory.
 fn note_change(
     alloc: Global,
-    cached: &mut Keyed<Labels, CachedPeriods>,
+    cached: &mut Vec<Option<CachedPeriods>>,
     changes: &mut Vec<SilenceChange>,
     asked_ahead: &mut usize,
     noted: SilenceChange,
 )
     ensures cached { (before after : Silences) → SameOthers noted.id before after
-        → AreCached before (changed_ids changes.old.items) (map_of label_set_cmp cached.old)
-        → AreCached after (changed_ids changes.new.items) (map_of label_set_cmp cached.new) }
+        → AreCached before (changed_ids changes.old.items) cached.old.items
+        → AreCached after (changed_ids changes.new.items) cached.new.items }
     ensures noted { (before after : Silences) → SameOthers noted.id before after
         → noted ≡ change_of noted.id (map.get after noted.id)
         → AreNoted before changes.old.items → AreNoted after changes.new.items }
@@ -402,14 +421,30 @@ fn note_change(
 /// Forgets all that is cached of label sets.
 fn forget(
     alloc: Global,
-    cached: &mut Keyed<Labels, CachedPeriods>,
+    cached: &mut Vec<Option<CachedPeriods>>,
     changes: &mut Vec<SilenceChange>,
     asked_ahead: &mut usize,
 )
-    ensures cached { map_of label_set_cmp cached.new ≡ map.empty }
+    ensures cached { cached.new.items ≡ [] }
     ensures changes { changes.new.items ≡ [] }
 {
-    *cached = Keyed::new(alloc);
+    *cached = Vec::new(alloc);
     changes.clear();
     *asked_ahead = 0;
+}
+
+/// Returns the label sets with numbers from `first` up to `end`.
+fn label_sets_from(
+    alloc: Global,
+    alerts: &Keyed<Labels, Alert>,
+    first: usize,
+    end: usize,
+) -> Result<Vec<Labels>, AllocError> {
+    let mut label_sets = Vec::new(alloc);
+    for number in first..end {
+        if let Some(labels) = alerts.key_at(number) {
+            label_sets.push(labels.clone()?)?;
+        }
+    }
+    Ok(label_sets)
 }

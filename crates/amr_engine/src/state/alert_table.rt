@@ -9,7 +9,7 @@ ghost use Rattle.amr_labels.specs.Set as set;
 ghost use Rattle.amr_tables.specs.Places.{values_of};
 ghost use Rattle.amr_tables.specs.Numbered.{map_of, number_of, EntersAt, KeepsPlaces, SamePlaces, SameEntered, NoneEntered, IsMarkOf, IsNumber, IsSetAt, IsValueOf};
 ghost use Rattle.amr_rules.specs.Muting.{sources_of};
-ghost use Rattle.amr_engine.specs.Indexes.RuleSources.{AllArrived, pairs_of, stored_of};
+ghost use Rattle.amr_engine.specs.Indexes.RuleSources.{pairs_of, stored_of};
 ghost use Rattle.amr_config.specs.RouteLabels.{route_labels_cmp};
 ghost use Rattle.amr_engine.specs.State.Dues.{dues_of};
 ghost use Rattle.amr_engine.specs.declared.state.due.Kind.TheVariants.{AlertRemoval};
@@ -82,13 +82,6 @@ impl AlertTable {
         &self.alerts
     }
 
-    /// Returns the number of a label set, if it has a place.
-    pub fn number_of(&self, labels: &Labels) -> Option<usize>
-        ensures { result ≡ number_of label_set_cmp self.now labels.now }
-    {
-        self.alerts.number_of(labels)
-    }
-
     /// Returns the alerts with their labels, in the order of the labels. It sorts them, so it is for
     /// listings.
     pub fn sorted(&self, alloc: Global) -> Result<Vec<(&Labels, &Alert)>, AllocError>
@@ -103,14 +96,6 @@ impl AlertTable {
         ensures { result ≡ values_of self.now.cells }
     {
         self.alerts.values()
-    }
-
-    /// Returns label sets in the order in which they came: all that have a place, and those for
-    /// which no memory was found after they came.
-    pub fn arrived(&self) -> &[Labels]
-        ensures { AllArrived self.now result.now }
-    {
-        self.sources.arrived()
     }
 
     /// Returns the first removal of an alert.

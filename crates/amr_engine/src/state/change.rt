@@ -18,7 +18,7 @@ use std::mem;
 pub enum Change {
     /// The moment of the clock.
     OfMoment(Moment),
-    /// The configuration in force, with the groups it has worked out so far.
+    /// The configuration in force, with what is cached under it.
     OfConfig(BoxedRouter),
     /// The stored alert with these labels.
     OfAlert(Labels, Option<Alert>),

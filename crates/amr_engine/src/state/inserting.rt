@@ -31,7 +31,8 @@ pub fn insert_into_groups(
     ensures grown { GrownBy (2 * length (chosen_routes store.old.state.config labels.now))
         store.old store.new }
 {
-    let groups = store.groups_of(labels)?;
+    let number = store.number_of(labels);
+    let groups = store.groups_of(number, labels)?;
     insert_into_each(store, groups.get().as_slice(), labels, alert)
 }
 

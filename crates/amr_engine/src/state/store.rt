@@ -223,25 +223,38 @@ impl Store {
         self.tables.silences.silences()
     }
 
-    /// Returns the least id of a silence that mutes labels at a moment, or `None` if no silence
-    /// does.
-    pub fn silenced_by(&self, at: Moment, labels: &Labels) -> Result<Option<SilenceId>, AllocError>
+    /// Returns the number of a label set, if an alert with it was ever stored. What is cached of the
+    /// label set stands at its number. No answer depends on it.
+    pub fn number_of(&self, labels: &Labels) -> Option<usize> {
+        self.tables.alerts.by_number().number_of(labels)
+    }
+
+    /// Returns the least id of a silence that mutes the label set with a number at a moment, or
+    /// `None` if no silence does.
+    pub fn silenced_by(
+        &self,
+        at: Moment,
+        number: Option<usize>,
+        labels: &Labels,
+    ) -> Result<Option<SilenceId>, AllocError>
         ensures named { IfOk result (λ found. found
             ≡ silencer_of at labels.now self.now.state.silences) }
         ensures exactly { IfOk result (λ found. is_silenced self.now.state.silences at labels.now
             ≡ is_some found) }
     {
-        self.tables.silences.silenced_by(at, labels)
+        self.tables.silences.silenced_by(at, number, labels)
     }
 
-    /// Works out when silences that match a label set are active, so that `silenced_by` needn't ask
-    /// their matchers at this moment or later. It does so once for each label set until a silence
-    /// changes. It may do so for others that have a place, too.
-    pub fn cache_silences(&mut self, at: Moment, labels: &Labels)
+    /// Works out when silences that match the label set with a number are active, so that
+    /// `silenced_by` needn't ask their matchers at this moment or later. It does so once for each
+    /// label set until a silence changes. It may do so for others that have a number, too.
+    pub fn cache_silences(&mut self, at: Moment, number: Option<usize>, labels: &Labels)
         ensures { self.new ≡ self.old }
     {
-        let arrived = self.tables.alerts.arrived();
-        self.tables.silences.cache(at, labels, arrived);
+        if let Some(number) = number {
+            let alerts = self.tables.alerts.by_number();
+            self.tables.silences.cache(at, number, labels, alerts);
+        }
     }
 
     /// Works out which label sets can be sources of the inhibition rules that have a label set as a
@@ -312,24 +325,30 @@ impl Store {
         self.tables.notes.as_slice()
     }
 
-    /// Returns the group of this label set on each route that takes it, by route. It computes them
-    /// once for each label set and configuration.
-    pub fn groups_of(&mut self, labels: &Labels) -> Result<Shared<Listing<RouteLabels>>, AllocError>
+    /// Returns the group of the label set with a number on each route that takes it, by route. It
+    /// computes them once for each label set and configuration.
+    pub fn groups_of(
+        &mut self,
+        number: Option<usize>,
+        labels: &Labels,
+    ) -> Result<Shared<Listing<RouteLabels>>, AllocError>
         ensures groups { IfOk result (λ groups. groups
             ≡ groups_of self.old.state.config labels.now) }
         ensures same { self.new ≡ self.old }
     {
-        let number = self.tables.alerts.number_of(labels);
         self.tables.roster.groups_of(number, labels)
     }
 
-    /// Returns which sides of the configuration's inhibition rules these labels are on. It asks no
-    /// matcher if the groups of these labels were computed under this configuration.
-    pub fn rule_matches(&self, labels: &Labels) -> Result<Shared<Listing<RuleMatch>>, AllocError>
+    /// Returns which sides of the configuration's inhibition rules the label set with a number is on.
+    /// It asks no matcher if the groups of the label set were computed under this configuration.
+    pub fn rule_matches(
+        &self,
+        number: Option<usize>,
+        labels: &Labels,
+    ) -> Result<Shared<Listing<RuleMatch>>, AllocError>
         ensures { IfOk result (λ found. found
             ≡ rule_matches labels.now self.now.state.config.rules) }
     {
-        let number = self.tables.alerts.number_of(labels);
         self.tables.roster.rule_matches(number, labels)
     }
 
@@ -349,13 +368,13 @@ impl Store {
         Ok(())
     }
 
-    /// Stores an alert, merged with the stored one of the same labels if there is one, and returns
-    /// what it stored. It looks for the labels once.
-    pub fn put_alert(&mut self, labels: &Labels, alert: Alert) -> Result<Alert, AllocError>
-        ensures stored { IfOk result (λ stored. stored ≡ alert_to_store self.old.state.moment
+    /// Stores an alert, merged with the stored one of the same labels if there is one. Returns the
+    /// number of the labels and what it stored. It looks for the labels once.
+    pub fn put_alert(&mut self, labels: &Labels, alert: Alert) -> Result<(usize, Alert), AllocError>
+        ensures stored { IfOk result (λ put. put.1 ≡ alert_to_store self.old.state.moment
             (map.get self.old.state.alerts labels.now) alert) }
-        ensures ok { IfOk result (λ stored. self.new.state ≡ record self.old.state
-            { alerts = map.insert self.old.state.alerts labels.now stored }) }
+        ensures ok { IfOk result (λ put. self.new.state ≡ record self.old.state
+            { alerts = map.insert self.old.state.alerts labels.now put.1 }) }
         ensures kept { before_open_record self.new ≡ before_open_record self.old }
         ensures grown { GrownBy 1 self.old self.new }
     {
@@ -365,7 +384,7 @@ impl Store {
         let change = Change::OfAlert(labels.clone()?, Some(stored.clone()?));
         let number = make_room(&mut self.tables, &mut self.journal, number, &change)?;
         enter(&mut self.tables, &mut self.journal, number, change);
-        Ok(stored)
+        Ok((number, stored))
     }
 
     /// Sets the next flush of a group and marks the group as flushed. Does nothing if there is no
@@ -476,7 +495,8 @@ impl Store {
         ensures same { self.new ≡ self.old }
     {
         let route = route_labels.route;
-        let groups = self.groups_of(&route_labels.labels)?;
+        let number = self.number_of(&route_labels.labels);
+        let groups = self.groups_of(number, &route_labels.labels)?;
         match group_among(groups.get().as_slice(), route) {
             Some(group) => group.clone(),
             None => group_key(self.alloc, self.config(), route, &route_labels.labels),

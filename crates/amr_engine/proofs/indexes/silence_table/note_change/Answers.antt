@@ -1,6 +1,4 @@
 use Rattle.std.proofs.Common.{List, sym, subst}
-use Rattle.amr_labels.specs.Labels.{label_set_cmp}
-use Rattle.amr_tables.specs.Numbered.{map_of}
 use Rattle.amr_engine.specs.declared.indexes.silence_change.SilenceChange.{SilenceChange}
 use Rattle.amr_engine.specs.Indexes.CachedSilences.{changed_ids, AreNoted, AreCached}
 use Rattle.amr_engine.proofs.IndexesLemmas.CachedSilences.{none_cached, cached_still, noted_more, none_noted}
@@ -8,8 +6,8 @@ use Rattle.amr_engine.proofs.indexes.silence_table.note_change.Goals as goal
 
 pub returns-then-count-capacity-clause-cached : goal.returns-then-count-capacity-clause-cached
 returns-then-count-capacity-clause-cached c = λ before after same are_cached.
-    subst (λ (cs : List SilenceChange). AreCached after (changed_ids cs) (map_of label_set_cmp c.args.cached.now)) (sym c.push_reserved.ensures.items)
-    (cached_still before after c.args.changes.now.items (map_of label_set_cmp c.args.cached.now) c.args.noted same are_cached)
+    subst (λ (cs : List SilenceChange). AreCached after (changed_ids cs) c.args.cached.now.items) (sym c.push_reserved.ensures.items)
+    (cached_still before after c.args.changes.now.items c.args.cached.now.items c.args.noted same are_cached)
 
 pub returns-then-count-capacity-clause-noted : goal.returns-then-count-capacity-clause-noted
 returns-then-count-capacity-clause-noted c = λ before after same own are_noted.

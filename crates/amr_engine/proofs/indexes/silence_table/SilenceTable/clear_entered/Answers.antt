@@ -1,7 +1,6 @@
 use Rattle.std.proofs.Common.{ℕ, sym, ap, subst, ◌∙◌}
 use Rattle.std.specs.Ordering.{nat_cmp}
-use Rattle.amr_labels.specs.Labels.{label_set_cmp}
-use Rattle.amr_tables.specs.Numbered.{Numbered, map_of, has_place}
+use Rattle.amr_tables.specs.Numbered.{Numbered, has_place}
 use Rattle.amr_rules.specs.declared.silence.Silence.{Silence}
 use Rattle.amr_rules.specs.Silences.{Silences}
 use Rattle.amr_engine.specs.Indexes.CachedSilences.{changed_ids, AreCached, AreNoted, AreUnexpired}
@@ -11,7 +10,7 @@ pub invariant_of-self : goal.invariant_of-self
 invariant_of-self c =
     let t = c.self.inside in
     let same = c.clear_entered.ensures.shown in (
-      subst (λ (s : Silences). AreCached s (changed_ids t.changes.items) (map_of label_set_cmp t.cached)) (sym same) c.self.invariant.0,
+      subst (λ (s : Silences). AreCached s (changed_ids t.changes.items) t.cached.items) (sym same) c.self.invariant.0,
       subst (λ (s : Silences). AreUnexpired s t.unexpired) (sym same) c.self.invariant.1,
       subst (λ (s : Silences). AreNoted s t.changes.items) (sym same) c.self.invariant.2,
     )

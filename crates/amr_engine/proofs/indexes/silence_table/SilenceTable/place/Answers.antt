@@ -1,6 +1,5 @@
 use Rattle.std.proofs.Common.{ℕ, List, IsTrue, sym, ap, subst, ◌∙◌}
 use Rattle.std.specs.Ordering.{nat_cmp}
-use Rattle.amr_labels.specs.Labels.{label_set_cmp}
 use Rattle.amr_tables.specs.Numbered.{Numbered, map_of, has_place, is_entered}
 use Rattle.amr_rules.specs.declared.silence.Silence.{Silence}
 use Rattle.amr_rules.specs.Silences.{Silences}
@@ -13,8 +12,8 @@ invariant_of-self c =
     let t = c.self.inside in
     let same = c.make_place.ensures.shown in
     let changes = ap changed_ids c.reserve.ensures.items in (
-      subst (λ (s : Silences). AreCached s (changed_ids c.reserve.new.self.items) (map_of label_set_cmp t.cached)) (sym same)
-          (subst (λ (ids : List ℕ). AreCached (map_of nat_cmp t.silences) ids (map_of label_set_cmp t.cached)) (sym changes) c.self.invariant.0),
+      subst (λ (s : Silences). AreCached s (changed_ids c.reserve.new.self.items) t.cached.items) (sym same)
+          (subst (λ (ids : List ℕ). AreCached (map_of nat_cmp t.silences) ids t.cached.items) (sym changes) c.self.invariant.0),
       subst (λ (s : Silences). AreUnexpired s t.unexpired) (sym same) c.self.invariant.1,
       subst (λ (s : Silences). AreNoted s c.reserve.new.self.items) (sym same)
           (subst (λ (cs : List SilenceChange). AreNoted (map_of nat_cmp t.silences) cs) (sym c.reserve.ensures.items) c.self.invariant.2),
