@@ -37,7 +37,7 @@ use Rattle.amr_engine.specs.Flush.{Members, let_through, labels_of, log_key_of, 
 use Rattle.amr_engine.specs.Quiet.{is_outside, no_alert_ends, no_source_ends, no_silence_turns, all_fire_until, is_untimed, no_repeat_before, is_notified, are_notified, with_timer_reset, IsStill, IsQuiet, IsQuietWith, IsAllNotified, LeavesOthers}
 use Rattle.amr_engine.specs.CachedQuiet.{Times, times_in, quiet_times, IsNotifiedIn, IsQuietSince, IsTrueTime, IsTrueOf, Outlasts, without_joined}
 use Rattle.amr_engine.proofs.FewerNotified.{both}
-use Rattle.amr_engine.proofs.QuietLaws.{quiet_flush, notified_flush, stays_quiet}
+use Rattle.amr_engine.proofs.QuietLaws.{quiet_flush, notified_quiet, stays_quiet}
 use Rattle.amr_engine.proofs.NotifiedStays.{beside_notified, left_notified, other_key, still_cached, now_cached, left_by_post}
 use Rattle.amr_engine.proofs.QuietStays.{flush_leaves, quiet_left, still_left}
 
@@ -147,15 +147,21 @@ outlasts_flush cache s flushed at shared there = λ group time cached notified.
     left_notified s (flush at flushed s) flushed (flush_leaves flushed at s) group other
     (λ integration its e. other_key s.config flushed group there notified.own (λ same. other (sym same)) its integration (sym e)) time.period notified
 
+-- a group is quiet while it is cached so
+pub quiet_if_cached : (cache : QuietGroups) (s : State) (group : RouteLabels) (time : QuietTime) → get (quiet_times cache) group ≡ Some time
+    → (time.generation ≡ None) ⊎ (time.generation ≡ Some cache.generation) → IsTrueOf cache s → IsQuiet s group time.period.from time.period.until
+quiet_if_cached cache s group time cached (inl always) holds =
+    let notified : IsNotifiedIn s group time.period = subst (IsTrueTime cache.generation s group time.period) always (holds.quiet group time cached) in
+    notified_quiet s group time.period.from time.period.until notified.notified
+quiet_if_cached cache s group time cached (inr present) holds =
+    let since : IsQuietSince cache.generation s group time.period cache.generation = subst (IsTrueTime cache.generation s group time.period) present (holds.quiet group time cached) in
+    since.quiet refl
+
 -- a flush of a group that is cached as quiet sets the group timer and changes nothing else
 pub cached_quiet : (cache : QuietGroups) (s : State) (group : RouteLabels) (at : Moment) (time : QuietTime) → get (quiet_times cache) group ≡ Some time → time.period.from ≤ at → at < time.period.until
     → (time.generation ≡ None) ⊎ (time.generation ≡ Some cache.generation) → IsTrueOf cache s → flush at group s ≡ with_timer_reset at group s
-cached_quiet cache s group at time cached not_before before (inl always) holds =
-    let notified : IsNotifiedIn s group time.period = subst (IsTrueTime cache.generation s group time.period) always (holds.quiet group time cached) in
-    notified_flush s group time.period.from time.period.until at not_before before notified.notified
-cached_quiet cache s group at time cached not_before before (inr present) holds =
-    let since : IsQuietSince cache.generation s group time.period cache.generation = subst (IsTrueTime cache.generation s group time.period) present (holds.quiet group time cached) in
-    quiet_flush s group time.period.from time.period.until at not_before before (since.quiet refl)
+cached_quiet cache s group at time cached not_before before present holds =
+    quiet_flush s group time.period.from time.period.until at not_before before (quiet_if_cached cache s group time cached present holds)
 
 -- ---- the post of an alert
 

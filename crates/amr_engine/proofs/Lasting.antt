@@ -38,7 +38,7 @@ use Rattle.amr_engine.proofs.TickLaws.{Judged, move_keeps}
 
 -- ---- the entries of a map
 
-abbrev In : {A : Type 0} → A → List A → Type 0
+abbrev pub In : {A : Type 0} → A → List A → Type 0
 In x [] = ⊥
 In x (y ∷ ys) = (x ≡ y) ⊎ In x ys
 
@@ -58,7 +58,7 @@ not_tied Greater Equal h same = absurd h
 not_tied o Greater h same = refl
 
 module _ {K X : Type 0} (R : K → K → Ordering) (total : IsTotalOrder R) (exact : IsAntisymmetric R) where
-  found_in : (es : List (K × X)) (k : K) (v : X) → find R k es ≡ Some v → In (k, v) es
+  pub found_in : (es : List (K × X)) (k : K) (v : X) → find R k es ≡ Some v → In (k, v) es
   found_in [] k v e = absurd (cc)
   found_in (first ∷ es) k v e =
       elim (eq_by_cmp R k first.0) as (λ b. eq_by_cmp R k first.0 ≡ b → cond b (Some first.1) (find R k es) ≡ Some v → In (k, v) (first ∷ es)) [
@@ -74,7 +74,7 @@ module _ {K X : Type 0} (R : K → K → Ordering) (total : IsTotalOrder R) (exa
   is_below k v x (e ∷ es) h (inl is) = subst (λ (y : K × X). T (is_lt (R x y.0))) (sym is) (part_one (is_lt (R x e.0)) (below_all R x es) h)
   is_below k v x (e ∷ es) h (inr among) = is_below k v x es (part_two (is_lt (R x e.0)) (below_all R x es) h) among
 
-  in_found : (es : List (K × X)) (k : K) (v : X) → T (is_sorted R es) → In (k, v) es → find R k es ≡ Some v
+  pub in_found : (es : List (K × X)) (k : K) (v : X) → T (is_sorted R es) → In (k, v) es → find R k es ≡ Some v
   in_found [] k v sorted among = absurd among
   in_found (e ∷ es) k v sorted (inl is) =
       ap (λ (y : K × X). cond (eq_by_cmp R y.0 e.0) (Some e.1) (find R y.0 es)) is
@@ -89,36 +89,36 @@ module _ {K X : Type 0} (R : K → K → Ordering) (total : IsTotalOrder R) (exa
 abbrev Timers : Type 0
 Timers = Map route_labels_cmp GroupTimer
 
-timer_among : (timers : Timers) (group : RouteLabels) (timer : GroupTimer) → get timers group ≡ Some timer → In (group, timer) (entries timers)
+pub timer_among : (timers : Timers) (group : RouteLabels) (timer : GroupTimer) → get timers group ≡ Some timer → In (group, timer) (entries timers)
 timer_among timers group timer e =
     found_in route_labels_cmp route_labels_cmp_total route_labels_cmp-IsAntisymmetric (entries timers) group timer (sym (get-entries timers group) ∙ e)
 
 -- the dues of alerts, of empty groups and of all groups
-abbrev alert_dues : State → List Due
+abbrev pub alert_dues : State → List Due
 alert_dues s = map alert_removal_of (entries s.alerts)
 
-abbrev empty_dues : State → List Due
+abbrev pub empty_dues : State → List Due
 empty_dues s = filter_map group_removal_of (entries s.timers)
 
-abbrev flush_dues : State → List Due
+abbrev pub flush_dues : State → List Due
 flush_dues s = map flush_of (entries s.timers)
 
-dues_are : (s : State) → dues s ≡ (alert_dues s ++ empty_dues s) ++ flush_dues s
+pub dues_are : (s : State) → dues s ≡ (alert_dues s ++ empty_dues s) ++ flush_dues s
 unfolding dues
 dues_are s = refl
 
-timer_got : (timers : Timers) (group : RouteLabels) (timer : GroupTimer) → In (group, timer) (entries timers) → get timers group ≡ Some timer
+pub timer_got : (timers : Timers) (group : RouteLabels) (timer : GroupTimer) → In (group, timer) (entries timers) → get timers group ≡ Some timer
 timer_got timers group timer among =
     get-entries timers group
     ∙ in_found route_labels_cmp route_labels_cmp_total route_labels_cmp-IsAntisymmetric (entries timers) group timer (entries-sorted timers) among
 
 -- ---- where a due comes from
 
-in_right : (d : Due) (xs ys : List Due) → IsIn d ys → IsIn d (xs ++ ys)
+pub in_right : (d : Due) (xs ys : List Due) → IsIn d ys → IsIn d (xs ++ ys)
 in_right d [] ys h = h
 in_right d (x ∷ xs) ys h = inr (in_right d xs ys h)
 
-in_either : (d : Due) (xs ys : List Due) → IsIn d (xs ++ ys) → IsIn d xs ⊎ IsIn d ys
+pub in_either : (d : Due) (xs ys : List Due) → IsIn d (xs ++ ys) → IsIn d xs ⊎ IsIn d ys
 in_either d [] ys h = inr h
 in_either d (x ∷ xs) ys (inl e) = inl (inl e)
 in_either d (x ∷ xs) ys (inr h) = elim (in_either d xs ys h) [
@@ -126,17 +126,17 @@ in_either d (x ∷ xs) ys (inr h) = elim (in_either d xs ys h) [
   | inr h ↦ inr h
 ]
 
-in_map : {A : Type 0} (f : A → Due) (e : A) (es : List A) → In e es → IsIn (f e) (map f es)
+pub in_map : {A : Type 0} (f : A → Due) (e : A) (es : List A) → In e es → IsIn (f e) (map f es)
 in_map f e [] h = absurd h
 in_map f e (x ∷ es) (inl is) = inl (ap f is)
 in_map f e (x ∷ es) (inr h) = inr (in_map f e es h)
 
-from_map : {A : Type 0} (f : A → Due) (d : Due) (es : List A) → IsIn d (map f es) → (e : A) × In e es × (d ≡ f e)
+pub from_map : {A : Type 0} (f : A → Due) (d : Due) (es : List A) → IsIn d (map f es) → (e : A) × In e es × (d ≡ f e)
 from_map f d [] h = absurd h
 from_map f d (x ∷ es) (inl is) = (x, inl refl, is)
 from_map f d (x ∷ es) (inr h) = let r = from_map f d es h in (r.0, inr r.1, r.2)
 
-from_filter_map : {A : Type 0} (f : A → Option Due) (d : Due) (es : List A) → IsIn d (filter_map f es) → (e : A) × In e es × (f e ≡ Some d)
+pub from_filter_map : {A : Type 0} (f : A → Option Due) (d : Due) (es : List A) → IsIn d (filter_map f es) → (e : A) × In e es × (f e ≡ Some d)
 from_filter_map f d [] h = absurd h
 from_filter_map {A} f d (x ∷ es) h =
     elim (f x) as (λ o. f x ≡ o → IsIn d (cons_option o (filter_map f es)) → (e : A) × In e (x ∷ es) × (f e ≡ Some d)) [
@@ -147,7 +147,7 @@ from_filter_map {A} f d (x ∷ es) h =
       ]
     ] refl h
 
-flush_is_due : (s : State) (group : RouteLabels) (timer : GroupTimer) → get s.timers group ≡ Some timer → IsIn (flush_of (group, timer)) (dues s)
+pub flush_is_due : (s : State) (group : RouteLabels) (timer : GroupTimer) → get s.timers group ≡ Some timer → IsIn (flush_of (group, timer)) (dues s)
 flush_is_due s group timer timed =
     subst (IsIn (flush_of (group, timer))) (sym (dues_are s))
     (in_right (flush_of (group, timer)) (alert_dues s ++ empty_dues s) (flush_dues s)
@@ -161,7 +161,7 @@ by_moment at (Some least) d e =
       | false ↦ λ is e. absurd (cc)
     ] refl e
 
-next_is_due : (at : Moment) (s : State) (d : Due) → next_due at s ≡ Some d → IsIn d (dues s) × (d.moment ≤ at)
+pub next_is_due : (at : Moment) (s : State) (d : Due) → next_due at s ≡ Some d → IsIn d (dues s) × (d.moment ≤ at)
 unfolding next_due
 next_is_due at s d e = ((least_due-IsLeast (dues s) d (next_is_first at s d (sym e))).among, by_moment at (least_due (dues s)) d e)
 
@@ -354,7 +354,7 @@ module _ (at : Moment) (group : RouteLabels) where
       let due = next_is_due at s d next in
       by_one s timer d lasts (in_either d (alert_dues s ++ empty_dues s) (flush_dues s) (subst (IsIn d) (dues_are s) due.0)) due.1
 
-  some_due : (s : State) (timer : GroupTimer) → get s.timers group ≡ Some timer → timer.next_flush ≤ at → (d : Due) × (next_due at s ≡ Some d)
+  pub some_due : (s : State) (timer : GroupTimer) → get s.timers group ≡ Some timer → timer.next_flush ≤ at → (d : Due) × (next_due at s ≡ Some d)
   some_due s timer timed soon = by (next_due at s) refl
     where
       by : (o : Option Due) → next_due at s ≡ o → (d : Due) × (next_due at s ≡ Some d)

@@ -17,6 +17,7 @@ pub mod QuietStays
 pub mod NotifiedStays
 pub mod MovesNoted
 pub mod Lasting
+pub mod Calming
 pub mod CachedQuiet
 pub mod Forgetting
 pub mod Unnotified

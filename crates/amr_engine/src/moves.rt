@@ -9,6 +9,7 @@ ghost use Rattle.amr_engine.specs.Events.{move_limit};
 ghost use Rattle.amr_engine.specs.Weight.{move_weight, first_weight};
 ghost use Rattle.amr_engine.specs.QuietMoves.{OnlySets, AreQuietMoves};
 
+use crate::calm::{is_calm, make_calm_moves};
 use crate::flush::{flush, reset_timer};
 use crate::quiet::QuietGroups;
 use crate::quiet_moves::QuietMoves;
@@ -16,6 +17,9 @@ use crate::state::{Change, Due, Store, Timer};
 use crate::too_many::{MOST_MOVES, are_too_many};
 use amr_time::Moment;
 use std::alloc::AllocError;
+
+/// After how many moves of an event it is asked at the earliest whether the others are calm.
+const FEWEST_BEFORE_CALM: usize = 64;
 
 /// Makes every move due at or before a moment, and returns how many there were. Returns `None` if
 /// there are more than `MOST_MOVES`, which it may find out before it makes so many; the caller then
@@ -38,9 +42,16 @@ pub(crate) fn advance(
     ensures cache { OnOk result (IsTrueOf quiet_groups.new store.new.state) }
     ensures quiet { AreQuietMoves quiet_moves.new store.old.state }
 {
+    let before_look = moves_before_calm(store);
     for made in 0..MOST_MOVES {
         if are_too_many(store, at, made)? {
             return Ok(None);
+        }
+        if made == before_look && is_calm(store, quiet_groups, at)? {
+            let Some(more) = make_calm_moves(store, at, MOST_MOVES - made)? else {
+                return Ok(None);
+            };
+            return Ok(Some(made + more));
         }
         match store.next_due(at)? {
             None => return Ok(Some(made)),
@@ -55,6 +66,13 @@ pub(crate) fn advance(
         return Ok(None);
     }
     Ok(Some(MOST_MOVES))
+}
+
+/// Returns after how many moves of an event it is asked whether the others are calm: two for each
+/// group, since all are looked at then, and not few.
+fn moves_before_calm(store: &Store) -> usize {
+    let groups = store.timers().next_number();
+    groups.saturating_mul(2).max(FEWEST_BEFORE_CALM)
 }
 
 /// Fires a timer: removes an alert or a group, or flushes a group. Returns whether this is known to

@@ -115,6 +115,23 @@ impl QuietGroups {
         }
     }
 
+    /// Returns true only if a group is cached as quiet from a moment until after another.
+    pub(crate) fn is_quiet_beyond(&self, group: &RouteLabels, first: Moment, last: Moment) -> bool
+        ensures { result ≡ true → (s : State) → IsTrueOf self.now s → (from : moment)
+            × (until : moment) × (from ≤ first) × (last < until) × IsQuiet s group.now from until }
+    {
+        let Some(time) = self.times.get(group) else {
+            return false;
+        };
+        if !time.period.covers(first) || time.period.until <= last.nanoseconds() {
+            return false;
+        }
+        match time.generation {
+            None => true,
+            Some(generation) => generation == self.generation,
+        }
+    }
+
     /// Returns until when nothing that may mute an alert changes, if that is cached of this moment.
     pub(crate) fn still_at(&self, at: Moment) -> Option<u128>
         ensures { IfSome result (λ until. (s : State) → IsTrueOf self.now s → IsStill s at until) }

@@ -35,7 +35,7 @@ either : (a b : Bool) (P : Type 0) → (IsTrue a → P) → (IsTrue b → P) →
 either true b P f g h = f refl
 either false b P f g h = g h
 
-or_right : (a b : Bool) → IsTrue b → IsTrue (a || b)
+pub or_right : (a b : Bool) → IsTrue b → IsTrue (a || b)
 or_right true b h = refl
 or_right false b h = h
 
@@ -85,7 +85,7 @@ first_part Less p h = refl
 first_part Equal p h = refl
 first_part Greater p h = h
 
-not_later : (a b : Due) → is_gt (due_cmp a b) ≡ false → a.moment ≤ b.moment
+pub not_later : (a b : Due) → is_gt (due_cmp a b) ≡ false → a.moment ≤ b.moment
 not_later a b h = le_from_not_gt a.moment b.moment (first_part (nat_cmp a.moment b.moment) _ h)
 
 pub sooner : (a b : Due) → a.moment < b.moment → is_gt (due_cmp a b) ≡ false

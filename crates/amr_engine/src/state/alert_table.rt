@@ -99,6 +99,7 @@ impl AlertTable {
     }
 
     /// Returns the first removal of an alert.
+    #[inline(always)]
     pub(crate) fn first_removal(&self) -> Option<Pending<'_>>
         ensures { (timers : map.Map route_labels_cmp GroupTimer) → IsFirstOfKind AlertRemoval
             (dues_of (map_of label_set_cmp self.now) timers) (option_map due_of result) }
@@ -250,6 +251,7 @@ fn cache_sides(sources: &mut RuleSources, rules: &[InhibitRule], matched: &[Rule
 }
 
 /// Returns the first removal of an alert, given the moments of all.
+#[inline(always)]
 fn first_alert<'a>(alerts: &'a Keyed<Labels, Alert>, removals: &Earliest) -> Option<Pending<'a>>
     requires numbered { AreNumbered label_set_cmp alerts.now }
     requires scheduled { IsScheduled label_set_cmp alert_moment alerts.now removals.now }

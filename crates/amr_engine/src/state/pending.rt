@@ -1,7 +1,7 @@
 //! The pending timers of alerts and groups: for how many of them room is made, and the first of them,
 //! which borrows its labels or its group. `alert_table.rt` and `roster.rt` keep the moments, which go
 //! by the numbers of what they are of; nothing is fired here.
-ghost use Rattle.std.specs.Prelude.{◌≡◌, ◌+◌, option_map, IfOk};
+ghost use Rattle.std.specs.Prelude.{◌≡◌, ◌+◌, ◌<◌, false, option_map, IfOk, IfSome};
 ghost use Rattle.amr_tables.specs.Numbered.{next_number, IsNumbering};
 ghost use Rattle.amr_engine.specs.State.Dues.{due_by};
 ghost use Rattle.amr_engine.specs.State.Timed.{timer_of, due_of, earlier};
@@ -53,6 +53,16 @@ pub(crate) struct Pending<'a> {
     /// When it fires, in nanoseconds since 1970.
     pub(crate) moment: u128,
     pub(crate) timer: TimerRef<'a>,
+}
+
+/// Returns whether a timer is pending at or before a moment.
+pub(crate) fn is_due(at: Moment, first: Option<Pending<'_>>) -> bool
+    ensures { result ≡ false → IfSome (option_map due_of first.entry) (λ due. at < due.moment) }
+{
+    match first {
+        None => false,
+        Some(first) => first.moment <= at.nanoseconds(),
+    }
 }
 
 /// Copies a timer, with what it borrows, if it is pending at or before a moment.

@@ -145,6 +145,7 @@ impl Roster {
     }
 
     /// Returns the first removal of a group.
+    #[inline(always)]
     pub(crate) fn first_removal(&self) -> Option<Pending<'_>>
         ensures { (alerts : map.Map label_set_cmp Alert) → IsFirstOfKind GroupRemoval
             (dues_of alerts (map_of route_labels_cmp self.now.timers)) (option_map due_of result) }

@@ -3,7 +3,7 @@
 //! event can be undone. It decides nothing about alerts, groups or silences, but it asks `amr_rules`
 //! whether an entry of the notification log is due, and what is stored of a new alert, since it finds
 //! what was there before.
-ghost use Rattle.std.specs.Prelude.{◌≡◌, ◌≤◌, ◌<◌, ◌+◌, ◌++◌, ◌∷◌, ◌==◌, [], ℕ, Option, Some, None, length, OnOk, IfOk, IfSome};
+ghost use Rattle.std.specs.Prelude.{◌≡◌, ◌≤◌, ◌<◌, ◌+◌, ◌++◌, ◌∷◌, ◌==◌, [], ℕ, false, Option, Some, None, length, OnOk, IfOk, IfSome};
 ghost use Rattle.std.specs.Prelude.{if◌then◌else◌, is_some, option_map, slice_get};
 ghost use Rattle.std.specs.Option.{option_copied};
 ghost use Rattle.std.specs.Ordering.{nat_cmp};
@@ -19,6 +19,7 @@ ghost use Rattle.amr_rules.specs.Muting.{is_silenced, silencer_of};
 ghost use Rattle.amr_config.specs.RouteLabels.{route_labels_cmp};
 ghost use Rattle.amr_engine.specs.State.State.{start, members, group_key, timers_after_flush, log_key_cmp};
 ghost use Rattle.amr_engine.specs.State.Dues.{next_due};
+ghost use Rattle.amr_engine.specs.Calm.{AreNoneRemoved};
 ghost use Rattle.amr_engine.specs.State.Logged.{is_due};
 ghost use Rattle.amr_engine.specs.State.Kept.{GrownBy, before_open_record};
 ghost use Rattle.amr_engine.specs.State.Rostered.{labels_of_members};
@@ -316,6 +317,14 @@ impl Store {
         ensures within { IfOk result (λ due. IfSome due (λ d. d.moment ≤ at)) }
     {
         self.tables.next_due(at)
+    }
+
+    /// Returns whether an alert or a group is removed at or before a moment.
+    pub fn is_removal_due(&self, at: Moment) -> bool
+        ensures { result ≡ false
+            → AreNoneRemoved at self.now.state.alerts self.now.state.timers }
+    {
+        self.tables.is_removal_due(at)
     }
 
     /// Returns all notifications so far, in order.

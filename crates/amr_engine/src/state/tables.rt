@@ -1,12 +1,13 @@
 //! The representation of the state: the clock, the tables and the notifications, with the marks of
 //! what the open record has entries for. `Store` owns it, appends notifications and drops them;
 //! `displace` is the one way to change it otherwise.
-ghost use Rattle.std.specs.Prelude.{◌≡◌, Some, IsTrue, IfOk, not};
+ghost use Rattle.std.specs.Prelude.{◌≡◌, false, Some, IsTrue, IfOk, not};
 ghost use Rattle.amr_tables.specs.Numbered.{map_of, has_place, number_of, KeepsPlaces, SameEntered};
 ghost use Rattle.amr_labels.specs.Labels.{label_set_cmp};
 ghost use Rattle.amr_config.specs.RouteLabels.{route_labels_cmp};
 ghost use Rattle.amr_engine.specs.State.State.{log_key_cmp};
 ghost use Rattle.amr_engine.specs.State.Dues.{dues_of, due_by, least_due};
+ghost use Rattle.amr_engine.specs.Calm.{AreNoneRemoved};
 ghost use Rattle.amr_engine.specs.State.Records.{after_change, change_back};
 ghost use Rattle.amr_engine.specs.State.Fitting.{FitsOne, is_config};
 ghost use Rattle.amr_engine.specs.State.Stored.{shown_by, SameValues, MorePlaces, IsSound, IsPlaceOf, IsUnmarked, NoNewMark, NewMarkAt, is_marked_at};
@@ -16,7 +17,7 @@ use crate::state::alert_table::AlertTable;
 use crate::state::change::Change;
 use crate::state::due::Due;
 use crate::state::notification::{LogKey, Notification};
-use crate::state::pending::{earlier, if_due};
+use crate::state::pending::{earlier, if_due, is_due};
 use crate::state::roster::Roster;
 use amr_labels::Shared;
 use amr_rules::LogEntry;
@@ -123,6 +124,14 @@ impl Tables {
         let removal = self.roster.first_removal();
         let flush = self.roster.first_flush();
         if_due(at, earlier(alert, earlier(removal, flush)))
+    }
+
+    /// Returns whether an alert or a group is removed at or before a moment.
+    pub(crate) fn is_removal_due(&self, at: Moment) -> bool
+        ensures { result ≡ false → AreNoneRemoved at (map_of label_set_cmp self.now.alerts)
+            (map_of route_labels_cmp self.now.roster.timers) }
+    {
+        is_due(at, self.alerts.first_removal()) || is_due(at, self.roster.first_removal())
     }
 
     /// Clears the marks of all places, so that the open record takes their next change again. It

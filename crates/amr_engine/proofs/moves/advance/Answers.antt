@@ -19,6 +19,30 @@ pub returns-in-None-clause-ok : goal.returns-in-None-clause-ok
 returns-in-None-clause-ok c =
     stops move_limit c.loop-made.made c.args.at c.loop-made.store.state c.args.store.now.state c.loop-made.invariant.ok (rw c.in-None.is at c.in_ok-next_due.ensures.due)
 
+-- the other moves are calm
+pub returns-in_default-clause-ok : goal.returns-in_default-clause-ok
+returns-in_default-clause-ok c =
+    let rest = rw c.in_default.is at c.in_ok-more.ensures.made in
+    sym (c.loop-made.invariant.ok ∙ ap (λ n. plus_moves (counted_run (advance (n - c.loop-made.made) c.args.at c.loop-made.store.state)) c.loop-made.made) limit_is ∙ ap (λ r. plus_moves r c.loop-made.made) (sym rest))
+
+pub returns-in_default-clause-grown : goal.returns-in_default-clause-grown
+returns-in_default-clause-grown c =
+    let left = ap (λ n. first_weight (n - c.loop-made.made) c.args.at c.loop-made.store.state) limit_is in
+    omega (arith, left, c.loop-made.invariant.grown, c.in_ok-more.ensures.grown)
+
+pub returns-then-branch-2-clause-ok : goal.returns-then-branch-2-clause-ok
+returns-then-branch-2-clause-ok c =
+    let made = c.loop-made.made in
+    let rest = rw c.in-Some.is at c.in_ok-more.ensures.made in
+    let count : made + c.in-Some.more ≡ c.in-Some.more + made = omega arith in
+    ap (λ n. Some (n, c.make_calm_moves.new.store.state)) count
+    ∙ sym (c.loop-made.invariant.ok ∙ ap (λ n. plus_moves (counted_run (advance (n - made) c.args.at c.loop-made.store.state)) made) limit_is ∙ ap (λ r. plus_moves r made) (sym rest))
+
+pub returns-then-branch-2-clause-grown : goal.returns-then-branch-2-clause-grown
+returns-then-branch-2-clause-grown c =
+    let left = ap (λ n. first_weight (n - c.loop-made.made) c.args.at c.loop-made.store.state) limit_is in
+    omega (arith, left, c.loop-made.invariant.grown, c.in_ok-more.ensures.grown)
+
 pub loop-made-init : goal.loop-made-init
 loop-made-init c = record {
   ok = begins move_limit c.args.at c.args.store.now.state;
@@ -31,23 +55,23 @@ loop-made-init c = record {
 
 pub make-requires-clause-quiet : goal.make-requires-clause-quiet
 make-requires-clause-quiet c =
-    λ is. known_move c.loop-made.quiet_moves c.loop-made.made c.args.store.now.state c.loop-made.store.state c.args.at c.in-Some.due c.loop-made.invariant.here c.loop-made.invariant.quiet
-    (rw c.in-Some.is at c.in_ok-next_due.ensures.due) (sym c.is_quiet.ensures ∙ is)
+    λ is. known_move c.loop-made.quiet_moves c.loop-made.made c.args.store.now.state c.loop-made.store.state c.args.at c.in-Some-2.due c.loop-made.invariant.here c.loop-made.invariant.quiet
+    (rw c.in-Some-2.is at c.in_ok-next_due.ensures.due) (sym c.is_quiet.ensures ∙ is)
 
 pub loop-made-preserved : goal.loop-made-preserved
 loop-made-preserved c =
     let less : c.loop-made.made < move_limit = omega (arith, limit_is, c.loop-made-test.true) in
-    let next = rw c.in-Some.is at c.in_ok-next_due.ensures.due in
-    let made = c.in_ok-is_quiet-in-Some.ensures in
+    let next = rw c.in-Some-2.is at c.in_ok-next_due.ensures.due in
+    let made = c.in_ok-is_quiet-in-Some-2.ensures in
     record {
-      ok = goes_on move_limit c.loop-made.made c.args.at c.loop-made.store.state c.args.store.now.state c.in-Some.due c.loop-made.invariant.ok less next
+      ok = goes_on move_limit c.loop-made.made c.args.at c.loop-made.store.state c.args.store.now.state c.in-Some-2.due c.loop-made.invariant.ok less next
           ∙ ap (λ s. plus_moves (counted_run (advance (move_limit - (c.loop-made.made + 1)) c.args.at s)) (c.loop-made.made + 1)) (sym made.ok);
       kept = made.kept ∙ c.loop-made.invariant.kept;
-      grown = spent move_limit c.loop-made.made c.args.at c.loop-made.store.state c.make.new.store.state c.in-Some.due (length c.loop-made.store.current) (length c.make.new.store.current)
+      grown = spent move_limit c.loop-made.made c.args.at c.loop-made.store.state c.make.new.store.state c.in-Some-2.due (length c.loop-made.store.current) (length c.make.new.store.current)
           (length c.args.store.now.current + 2 * first_weight move_limit c.args.at c.args.store.now.state) c.loop-made.invariant.grown less next made.ok made.grown;
       cache = made.cache;
-      here = one_more c.loop-made.made c.args.store.now.state c.loop-made.store.state c.make.new.store.state c.args.at c.in-Some.due c.loop-made.invariant.here next made.ok;
-      quiet = note_move c.loop-made.quiet_moves c.note-forgotten.new.self c.loop-made.made c.in_ok-is_quiet-in-Some.is_quiet c.args.store.now.state c.loop-made.store.state c.args.at c.in-Some.due
+      here = one_more c.loop-made.made c.args.store.now.state c.loop-made.store.state c.make.new.store.state c.args.at c.in-Some-2.due c.loop-made.invariant.here next made.ok;
+      quiet = note_move c.loop-made.quiet_moves c.note-forgotten.new.self c.loop-made.made c.in_ok-is_quiet-in-Some-2.is_quiet c.args.store.now.state c.loop-made.store.state c.args.at c.in-Some-2.due
           c.loop-made.invariant.here c.loop-made.invariant.quiet next made.quiet (noted_or_not c.note-forgotten.result _ _ c.note-forgotten.ensures.ok c.note-forgotten.ensures.err);
     }
 

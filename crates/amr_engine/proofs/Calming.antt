@@ -1,0 +1,491 @@
+-- Flushes of quiet groups can be made in any order, so those of one group can all be made first.
+use Rattle.std.specs.Prelude.{◌≡◌, ℕ, zero, suc, true, false, List, [], ◌∷◌, ◌++◌, Option, Some, None, ◌≤◌, ◌<◌, ◌+◌, ◌-◌, ◌*◌, ◌/◌, map, option_map, cond, ◌⊎◌, ◌||◌, IsTrue, IfSome}
+use Rattle.std.specs.List.{All, filter_map, cons_option}
+use Rattle.std.specs.Option.{option_map_or}
+use Rattle.std.specs.Ordering.{eq_by_cmp, is_eq}
+use Rattle.std.proofs.Common.{refl, sym, ap, ◌∙◌, subst, inl, inr, arith}
+use Rattle.std.proofs.lemmas.Cmp.{tied_itself}
+use Rattle.amr_labels.specs.Map.{Map, get, insert, entries, get-entries, entries-sorted, get-insert, same_map}
+use Rattle.amr_labels.specs.Labels.{LabelSet, label_set_cmp, label_set_cmp_total, label_set_cmp-IsAntisymmetric}
+use Rattle.amr_time.specs.Time.{Moment, second, next_multiple_of}
+use Rattle.amr_config.specs.Routing.{group_interval_of}
+use Rattle.amr_config.specs.declared.route_labels.RouteLabels.{RouteLabels}
+use Rattle.amr_config.specs.RouteLabels.{on_route, route_labels_cmp, route_labels_cmp_total, route_labels_cmp-IsAntisymmetric}
+use Rattle.amr_rules.specs.declared.alert.Alert.{Alert}
+use Rattle.amr_rules.specs.Muting.{Alerts}
+use Rattle.amr_engine.specs.declared.state.notification.GroupTimer.{GroupTimer}
+use Rattle.amr_engine.specs.State.State.{State}
+use Rattle.amr_engine.specs.declared.quiet.QuietGroups.{QuietGroups}
+use Rattle.amr_engine.specs.CachedQuiet.{IsTrueOf}
+use Rattle.amr_engine.specs.declared.state.due.Kind.{Kind}
+use Rattle.amr_engine.specs.declared.state.due.Kind.TheVariants.{AlertRemoval, GroupRemoval, GroupFlush}
+use Rattle.amr_engine.specs.declared.state.due.Timer.{Timer}
+use Rattle.amr_engine.specs.declared.state.due.Timer.TheVariants as timers
+use Rattle.amr_engine.specs.State.Timed.{IsFirstOfKind}
+use Rattle.amr_tables.specs.Members.{has}
+use Rattle.amr_engine.specs.State.Dues.{Due, due_at, kind_of, due_cmp, due_cmp_total, dues_of, alert_removal_at, group_removal_at, alert_removal_of, group_removal_of, flush_of, next_due}
+use Rattle.amr_engine.specs.Quiet.{with_timer_reset}
+use Rattle.amr_engine.specs.Moves.{move, advance, counted_run}
+use Rattle.amr_engine.specs.Weight.{move_weight, first_weight}
+use Rattle.amr_engine.specs.Said.{IsIn}
+use Rattle.amr_engine.specs.Calm.{AreNoneRemoved, IsQuietBeyond, IsCalm}
+use Rattle.amr_engine.proofs.Cascade.{plus_moves, advance_none, advance_over, advance_some}
+use Rattle.amr_engine.proofs.Lasting.{In, found_in, in_found, in_map, in_right, timer_among, from_map, from_filter_map, in_either, timer_got, alert_dues, empty_dues, flush_dues, dues_are, next_is_due, some_due}
+use Rattle.std.proofs.Math.Nat.{mul-le-mul_right}
+use Rattle.std.proofs.lemmas.Nat.{div-add-mod'}
+use Rattle.amr_engine.proofs.CachedQuiet.{stays_true}
+use Rattle.amr_engine.proofs.QuietLaws.{quiet_flush, stays_quiet}
+use Rattle.amr_engine.proofs.QuietStays.{apart, equal}
+use Rattle.std.proofs.lemmas.Bool.{true≢false}
+use Rattle.amr_engine.proofs.StateLemmas.Least.{not_later, or_right}
+
+abbrev Timers : Type 0
+Timers = Map route_labels_cmp GroupTimer
+
+alert_got : (alerts : Alerts) (labels : LabelSet) (alert : Alert) → In (labels, alert) (entries alerts) → get alerts labels ≡ Some alert
+alert_got alerts labels alert among =
+    get-entries alerts labels ∙ in_found label_set_cmp label_set_cmp_total label_set_cmp-IsAntisymmetric (entries alerts) labels alert (entries-sorted alerts) among
+
+-- ---- a timer that is set
+
+-- a timer is the one that was set, or one that was there
+got_after : (timers : Timers) (group : RouteLabels) (new : GroupTimer) (other : RouteLabels) (its : GroupTimer) → get (insert timers group new) other ≡ Some its
+    → ((other ≡ group) × (its ≡ new)) ⊎ (get timers other ≡ Some its)
+got_after timers group new other its got =
+    elim (eq_by_cmp route_labels_cmp other group) as (λ b. eq_by_cmp route_labels_cmp other group ≡ b → cond b (Some new) (get timers other) ≡ Some its → ((other ≡ group) × (its ≡ new)) ⊎ (get timers other ≡ Some its)) [
+      | true ↦ λ is e. inl (route_labels_cmp-IsAntisymmetric other group (equal _ is), ap (λ (o : Option GroupTimer). option_map_or (λ t. t) o its) (sym e))
+      | false ↦ λ is e. inr e
+    ] refl (sym (get-insert route_labels_cmp_total timers group new other) ∙ got)
+
+got_own : (timers : Timers) (group : RouteLabels) (new : GroupTimer) → get (insert timers group new) group ≡ Some new
+got_own timers group new =
+    get-insert route_labels_cmp_total timers group new group ∙ ap (λ o. cond (is_eq o) (Some new) (get timers group)) (tied_itself route_labels_cmp_total group)
+
+got_other : (timers : Timers) (group other : RouteLabels) (new : GroupTimer) → (other ≡ group → ⊥) → get (insert timers group new) other ≡ get timers other
+got_other timers group other new differ =
+    get-insert route_labels_cmp_total timers group new other ∙ ap (λ b. cond b (Some new) (get timers other)) (apart route_labels_cmp-IsAntisymmetric other group differ)
+
+-- two timers can be set in either order
+set_both : (timers : Timers) (a b : RouteLabels) (x y : GroupTimer) → (a ≡ b → ⊥) → insert (insert timers a x) b y ≡ insert (insert timers b y) a x
+set_both timers a b x y differ =
+    same_map route_labels_cmp_total route_labels_cmp-IsAntisymmetric _ _ (λ q.
+    get-insert route_labels_cmp_total (insert timers a x) b y q
+    ∙ ap (λ o. cond (eq_by_cmp route_labels_cmp q b) (Some y) o) (get-insert route_labels_cmp_total timers a x q)
+    ∙ swapped q (eq_by_cmp route_labels_cmp q a) (eq_by_cmp route_labels_cmp q b) refl refl
+    ∙ sym (get-insert route_labels_cmp_total (insert timers b y) a x q ∙ ap (λ o. cond (eq_by_cmp route_labels_cmp q a) (Some x) o) (get-insert route_labels_cmp_total timers b y q)))
+  where
+    swapped : (q : RouteLabels) (p r : _) → eq_by_cmp route_labels_cmp q a ≡ p → eq_by_cmp route_labels_cmp q b ≡ r → cond r (Some y) (cond p (Some x) (get timers q)) ≡ cond p (Some x) (cond r (Some y) (get timers q))
+    swapped q true true e f = absurd (differ (sym (route_labels_cmp-IsAntisymmetric q a (equal _ e)) ∙ route_labels_cmp-IsAntisymmetric q b (equal _ f)))
+    swapped q true false e f = refl
+    swapped q false true e f = refl
+    swapped q false false e f = refl
+
+-- of a timer that is set twice, the second counts
+set_again : (timers : Timers) (group : RouteLabels) (x y : GroupTimer) → insert (insert timers group x) group y ≡ insert timers group y
+set_again timers group x y =
+    same_map route_labels_cmp_total route_labels_cmp-IsAntisymmetric _ _ (λ q.
+    get-insert route_labels_cmp_total (insert timers group x) group y q
+    ∙ ap (λ o. cond (eq_by_cmp route_labels_cmp q group) (Some y) o) (get-insert route_labels_cmp_total timers group x q)
+    ∙ second q (eq_by_cmp route_labels_cmp q group)
+    ∙ sym (get-insert route_labels_cmp_total timers group y q))
+  where
+    second : (q : RouteLabels) (p : _) → cond p (Some y) (cond p (Some x) (get timers q)) ≡ cond p (Some y) (get timers q)
+    second q true = refl
+    second q false = refl
+
+-- the group's next flush is at this moment, and it was flushed
+abbrev pub set_at : State → RouteLabels → GroupTimer → Moment → State
+set_at s group timer next = record s { timers = insert s.timers group (record timer { next_flush = next; flushed = true }) }
+
+pub reset_is : (m : Moment) (s : State) (group : RouteLabels) (timer : GroupTimer) → get s.timers group ≡ Some timer
+    → with_timer_reset m group s ≡ set_at s group timer (m + group_interval_of s.config group.route)
+reset_is m s group timer timed =
+    ap (λ (o : Option GroupTimer). record s { timers = option_map_or (λ t. insert s.timers group (record t { next_flush = m + group_interval_of s.config group.route; flushed = true })) o s.timers }) timed
+
+-- ---- the next move
+
+module _ (at : Moment) where
+  -- the move sets the timer of a group that is due
+  pub record Resets (s : State) (d : Due) : Type 0 where
+    pub group : RouteLabels
+    pub timer : GroupTimer
+    pub timed : get s.timers group ≡ Some timer
+    pub soon : timer.next_flush ≤ at
+    pub is : d ≡ flush_of (group, timer)
+    pub made : move d s ≡ set_at s group timer (timer.next_flush + group_interval_of s.config group.route)
+
+  no_removal : (s : State) (entry : RouteLabels × GroupTimer) (d : Due) → IsCalm at s → get s.timers entry.0 ≡ Some entry.1 → group_removal_of entry ≡ Some d → d.moment ≤ at → Resets s d
+  no_removal s entry d calm timed is soon = by entry.1.empty_since refl is
+    where
+      by : (o : Option Moment) → entry.1.empty_since ≡ o
+          → option_map (λ since. record { moment = next_multiple_of since (30 * second); kind = GroupRemoval; route = entry.0.route; labels = entry.0.labels }) o ≡ Some d → Resets s d
+      by None e is = absurd (cc)
+      by (Some since) e is =
+          let later : at < next_multiple_of since (30 * second) =
+          calm.removed.of_groups entry.0 entry.1 (next_multiple_of since (30 * second)) timed (ap (option_map (λ m. next_multiple_of m (30 * second))) e) in
+          let here : next_multiple_of since (30 * second) ≡ d.moment = ap (λ (o : Option Due). option_map_or (λ x. x.moment) o 0) is in
+          absurd (omega (arith, later, here, soon))
+
+  resets_flush : (s : State) (entry : RouteLabels × GroupTimer) → IsCalm at s → get s.timers entry.0 ≡ Some entry.1 → entry.1.next_flush ≤ at → Resets s (flush_of entry)
+  unfolding move
+  resets_flush s entry calm timed soon =
+      let quiet = calm.flushed entry.0 entry.1 timed soon in
+      let before : entry.1.next_flush < quiet.until = omega (arith, soon, quiet.beyond) in
+      record {
+        group = entry.0;
+        timer = entry.1;
+        timed = timed;
+        soon = soon;
+        is = refl;
+        made = quiet_flush s entry.0 quiet.from quiet.until entry.1.next_flush quiet.begun before quiet.quiet ∙ reset_is entry.1.next_flush s entry.0 entry.1 timed;
+      }
+
+  by_one : (s : State) (d : Due) → IsCalm at s → IsIn d (alert_dues s ++ empty_dues s) ⊎ IsIn d (flush_dues s) → d.moment ≤ at → Resets s d
+  by_one s d calm (inl removal) soon = elim (in_either d (alert_dues s) (empty_dues s) removal) [
+    | inl alert ↦
+        let e = from_map alert_removal_of d (entries s.alerts) alert in
+        let later : at < alert_removal_at e.0.1 = calm.removed.of_alerts e.0.0 e.0.1 (alert_got s.alerts e.0.0 e.0.1 e.1) in
+        let here : alert_removal_at e.0.1 ≤ at = subst (λ (x : Due). x.moment ≤ at) e.2 soon in
+        absurd (omega (arith, later, here))
+    | inr empty ↦
+        let e = from_filter_map group_removal_of d (entries s.timers) empty in
+        no_removal s e.0 d calm (timer_got s.timers e.0.0 e.0.1 e.1) e.2 soon
+  ]
+  by_one s d calm (inr flushed) soon =
+      let e = from_map flush_of d (entries s.timers) flushed in
+      subst (Resets s) (sym e.2) (resets_flush s e.0 calm (timer_got s.timers e.0.0 e.0.1 e.1) (subst (λ (x : Due). x.moment ≤ at) e.2 soon))
+
+  pub next_resets : (s : State) (d : Due) → IsCalm at s → next_due at s ≡ Some d → Resets s d
+  next_resets s d calm next =
+      let due = next_is_due at s d next in
+      by_one s d calm (in_either d (alert_dues s ++ empty_dues s) (flush_dues s) (subst (IsIn d) (dues_are s) due.0)) due.1
+
+  -- it stays calm when a timer is set later
+  pub calm_after : (s : State) (group : RouteLabels) (timer : GroupTimer) (next : Moment) → IsCalm at s → get s.timers group ≡ Some timer → timer.next_flush ≤ at → timer.next_flush ≤ next
+      → IsCalm at (set_at s group timer next)
+  calm_after s group timer next calm timed soon later =
+      let new : GroupTimer = record timer { next_flush = next; flushed = true } in
+      let t : State = set_at s group timer next in
+      record {
+        removed = record {
+          of_alerts = calm.removed.of_alerts;
+          of_groups = λ other its removal got is. elim (got_after s.timers group new other its got) [
+            | inl same ↦ calm.removed.of_groups group timer removal timed (sym (ap group_removal_at same.1) ∙ is)
+            | inr before ↦ calm.removed.of_groups other its removal before is
+          ];
+        };
+        flushed = λ other its got due. elim (got_after s.timers group new other its got) [
+          | inl same ↦
+              let quiet = calm.flushed group timer timed soon in
+              subst (λ (x : RouteLabels × GroupTimer). IsQuietBeyond at t x.0 x.1) (λ i. (sym same.0 i, sym same.1 i)) (record {
+                from = quiet.from;
+                until = quiet.until;
+                begun = omega (arith, quiet.begun, later);
+                beyond = quiet.beyond;
+                quiet = stays_quiet s s.moment t.timers s.notes group quiet.from quiet.until quiet.quiet;
+                apart = quiet.apart;
+              })
+          | inr before ↦
+              let quiet = calm.flushed other its before due in
+              record {
+                from = quiet.from;
+                until = quiet.until;
+                begun = quiet.begun;
+                beyond = quiet.beyond;
+                quiet = stays_quiet s s.moment t.timers s.notes other quiet.from quiet.until quiet.quiet;
+                apart = quiet.apart;
+              }
+        ];
+      }
+
+  -- ---- the flushes of one group, made first
+
+  abbrev pub later_by : State → RouteLabels → GroupTimer → ℕ → State
+  later_by s group timer flushes = set_at s group timer (timer.next_flush + flushes * group_interval_of s.config group.route)
+
+  abbrev once : State → RouteLabels → GroupTimer → State
+  once s group timer = set_at s group timer (timer.next_flush + group_interval_of s.config group.route)
+
+  once_calm : (s : State) (group : RouteLabels) (timer : GroupTimer) → IsCalm at s → get s.timers group ≡ Some timer → timer.next_flush ≤ at → IsCalm at (once s group timer)
+  once_calm s group timer calm timed soon = calm_after s group timer (timer.next_flush + group_interval_of s.config group.route) calm timed soon (omega arith)
+
+  over : (s : State) (group : RouteLabels) (timer : GroupTimer) → get s.timers group ≡ Some timer → timer.next_flush ≤ at → counted_run (advance 0 at s) ≡ None
+  over s group timer timed soon = let d = some_due at group s timer timed soon in advance_over at s d.0 d.1
+
+  -- if it makes no difference which of two other groups is flushed first
+  one_first : (l : ℕ) (s : State) (group : RouteLabels) (timer : GroupTimer) → IsCalm at s → get s.timers group ≡ Some timer → timer.next_flush ≤ at
+      → ((other : RouteLabels) (its : GroupTimer) → get s.timers other ≡ Some its → its.next_flush ≤ at → (other ≡ group → ⊥)
+      → counted_run (advance l at (once s other its)) ≡ counted_run (advance l at (once s group timer)))
+      → counted_run (advance (suc l) at s) ≡ plus_moves (counted_run (advance l at (once s group timer))) 1
+  one_first l s group timer calm timed soon beside =
+      let d = some_due at group s timer timed soon in
+      let first = next_resets s d.0 calm d.1 in
+      advance_some l at s d.0 d.1
+      ∙ ap (λ (t : State). plus_moves (counted_run (advance l at t)) 1) first.made
+      ∙ ap (λ r. plus_moves r 1) (elim (eq_by_cmp route_labels_cmp first.group group) as (λ b. eq_by_cmp route_labels_cmp first.group group ≡ b
+      → counted_run (advance l at (once s first.group first.timer)) ≡ counted_run (advance l at (once s group timer))) [
+        | true ↦ λ is.
+            let same : first.group ≡ group = route_labels_cmp-IsAntisymmetric first.group group (equal _ is) in
+            let timers : first.timer ≡ timer =
+            ap (λ (o : Option GroupTimer). option_map_or (λ t. t) o timer) (sym first.timed ∙ ap (get s.timers) same ∙ timed) in
+            λ i. counted_run (advance l at (once s (same i) (timers i)))
+        | false ↦ λ is. beside first.group first.timer first.timed first.soon (λ same. absurd (cc (is, ap is_eq (ap (λ (g : RouteLabels). route_labels_cmp first.group g) (sym same) ∙ tied_itself route_labels_cmp_total first.group))))
+      ] refl)
+
+  -- any group that is due can be flushed first
+  any_first : (l : ℕ) (s : State) (group : RouteLabels) (timer : GroupTimer) → IsCalm at s → get s.timers group ≡ Some timer → timer.next_flush ≤ at
+      → counted_run (advance (suc l) at s) ≡ plus_moves (counted_run (advance l at (once s group timer))) 1
+  any_first zero s group timer calm timed soon =
+      one_first zero s group timer calm timed soon (λ other its got due differ.
+      over (once s other its) group timer (got_other s.timers other group _ (λ same. differ (sym same)) ∙ timed) soon
+      ∙ sym (over (once s group timer) other its (got_other s.timers group other _ differ ∙ got) due))
+  any_first (suc k) s group timer calm timed soon =
+      one_first (suc k) s group timer calm timed soon (λ other its got due differ.
+      any_first k (once s other its) group timer (once_calm s other its calm got due) (got_other s.timers other group _ (λ same. differ (sym same)) ∙ timed) soon
+      ∙ ap (λ (timers : Timers). plus_moves (counted_run (advance k at (record s { timers = timers }))) 1) (set_both s.timers other group _ _ differ)
+      ∙ sym (any_first k (once s group timer) other its (once_calm s group timer calm timed soon) (got_other s.timers group other _ differ ∙ got) due))
+
+  plus_plus : (r : Option (ℕ × State)) (n : ℕ) → plus_moves (plus_moves r n) 1 ≡ plus_moves r (suc n)
+  plus_plus None n = refl
+  plus_plus (Some r) n = ap (λ k. Some (k, r.1)) (omega arith)
+
+  -- and so can all of its flushes
+  pub all_first : (k l : ℕ) (s : State) (group : RouteLabels) (timer : GroupTimer) → IsCalm at s → get s.timers group ≡ Some timer
+      → timer.next_flush + k * group_interval_of s.config group.route ≤ at
+      → counted_run (advance (suc (k + l)) at s) ≡ plus_moves (counted_run (advance l at (later_by s group timer (suc k)))) (suc k)
+  all_first zero l s group timer calm timed late =
+      let interval = group_interval_of s.config group.route in
+      let soon : timer.next_flush ≤ at = omega (arith, late) in
+      let next : timer.next_flush + interval ≡ timer.next_flush + 1 * interval = omega arith in
+      let none : 0 + l ≡ l = omega arith in
+      ap (λ n. counted_run (advance (suc n) at s)) none
+      ∙ any_first l s group timer calm timed soon
+      ∙ ap (λ n. plus_moves (counted_run (advance l at (set_at s group timer n))) 1) next
+  all_first (suc k) l s group timer calm timed late =
+      let interval = group_interval_of s.config group.route in
+      let soon : timer.next_flush ≤ at = omega (arith, late) in
+      let after : GroupTimer = record timer { next_flush = timer.next_flush + interval; flushed = true } in
+      let rest : timer.next_flush + interval + k * interval ≤ at = omega (arith, late) in
+      let next : timer.next_flush + interval + suc k * interval ≡ timer.next_flush + suc (suc k) * interval = omega arith in
+      let count : suc k + l ≡ suc (k + l) = omega arith in
+      any_first (suc k + l) s group timer calm timed soon
+      ∙ ap (λ n. plus_moves (counted_run (advance n at (once s group timer))) 1) count
+      ∙ ap (λ r. plus_moves r 1) (all_first k l (once s group timer) group after (once_calm s group timer calm timed soon) (got_own s.timers group after) rest)
+      ∙ plus_plus (counted_run (advance l at (later_by (once s group timer) group after (suc k)))) (suc k)
+      ∙ ap (λ (timers : Timers). plus_moves (counted_run (advance l at (record s { timers = timers }))) (suc (suc k)))
+      (set_again s.timers group after (record timer { next_flush = timer.next_flush + interval + suc k * interval; flushed = true })
+      ∙ ap (λ n. insert s.timers group (record timer { next_flush = n; flushed = true })) next)
+
+  -- if they are more than the limit, the moves are
+  pub over_first : (l : ℕ) (s : State) (group : RouteLabels) (timer : GroupTimer) → IsCalm at s → get s.timers group ≡ Some timer
+      → timer.next_flush + l * group_interval_of s.config group.route ≤ at → counted_run (advance l at s) ≡ None
+  over_first zero s group timer calm timed late = over s group timer timed (omega (arith, late))
+  over_first (suc l) s group timer calm timed late =
+      let interval = group_interval_of s.config group.route in
+      let soon : timer.next_flush ≤ at = omega (arith, late) in
+      let after : GroupTimer = record timer { next_flush = timer.next_flush + interval; flushed = true } in
+      let rest : timer.next_flush + interval + l * interval ≤ at = omega (arith, late) in
+      any_first l s group timer calm timed soon
+      ∙ ap (λ r. plus_moves r 1) (over_first l (once s group timer) group after (once_calm s group timer calm timed soon) (got_own s.timers group after) rest)
+
+-- ---- what the code makes at once
+
+-- nothing but the flush of a group is due
+pub only_flushes : (at : Moment) (s : State) (moment : Moment) (timer : Timer) → IsCalm at s → next_due at s ≡ Some (due_at moment timer) → ((group : RouteLabels) → timer ≡ timers.GroupFlush group → ⊥) → ⊥
+only_flushes at s moment timer calm next none = by timer none (ap (λ (d : Due). d.kind) (next_resets at s (due_at moment timer) calm next).is)
+  where
+    by : (timer : Timer) → ((group : RouteLabels) → timer ≡ timers.GroupFlush group → ⊥) → kind_of timer ≡ GroupFlush → ⊥
+    by (timers.AlertRemoval labels) none e = cc e
+    by (timers.GroupRemoval group) none e = cc e
+    by (timers.GroupFlush group) none e = none group refl
+
+record Flushed (at : Moment) (s : State) (moment : Moment) (group : RouteLabels) : Type 0 where
+  timer : GroupTimer
+  timed : get s.timers group ≡ Some timer
+  first : timer.next_flush ≡ moment
+  soon : moment ≤ at
+  apart : 0 < group_interval_of s.config group.route
+
+flushed_group : (at : Moment) (s : State) (moment : Moment) (group : RouteLabels) → IsCalm at s → next_due at s ≡ Some (due_at moment (timers.GroupFlush group)) → Flushed at s moment group
+flushed_group at s moment group calm next =
+    let r = next_resets at s (due_at moment (timers.GroupFlush group)) calm next in
+    let same : r.group ≡ group = ap (λ (d : Due). on_route d.route d.labels) (sym r.is) in
+    let first : r.timer.next_flush ≡ moment = ap (λ (d : Due). d.moment) (sym r.is) in
+    record {
+      timer = r.timer;
+      timed = ap (get s.timers) (sym same) ∙ r.timed;
+      first = first;
+      soon = subst (λ m. m ≤ at) first r.soon;
+      apart = subst (λ (g : RouteLabels). 0 < group_interval_of s.config g.route) same (calm.flushed r.group r.timer r.timed r.soon).apart;
+    }
+
+pub are_apart : (at : Moment) (s : State) (moment : Moment) (group : RouteLabels) → IsCalm at s → next_due at s ≡ Some (due_at moment (timers.GroupFlush group)) → 0 < group_interval_of s.config group.route
+are_apart at s moment group calm next = (flushed_group at s moment group calm next).apart
+
+-- how often the group is flushed after its first flush
+abbrev pub more_flushes : Moment → State → Moment → RouteLabels → ℕ
+more_flushes at s moment group = (at - moment) / group_interval_of s.config group.route
+
+last_is : (at moment interval : ℕ) → moment ≤ at → moment + (at - moment) / interval * interval ≤ at
+last_is at moment interval soon = let rest = div-add-mod' (at - moment) interval in omega (arith, rest, soon)
+
+pub plus_more : (r : Option (ℕ × State)) (n made : ℕ) → plus_moves (plus_moves r n) made ≡ plus_moves r (made + n)
+plus_more None n made = refl
+plus_more (Some r) n made = ap (λ k. Some (k, r.1)) (omega arith)
+
+-- the flushes of a group, made at once
+pub record AreMade (at : Moment) (s t : State) (flushes : ℕ) : Type 0 where
+  pub calm : IsCalm at t
+  pub counted : (l : ℕ) → counted_run (advance (flushes + l) at s) ≡ plus_moves (counted_run (advance l at t)) flushes
+  pub cache : (cache : QuietGroups) → IsTrueOf cache s → IsTrueOf cache t
+
+pub at_once : (at : Moment) (s t : State) (moment : Moment) (group : RouteLabels) (last : Moment) → IsCalm at s → next_due at s ≡ Some (due_at moment (timers.GroupFlush group))
+    → last ≡ moment + more_flushes at s moment group * group_interval_of s.config group.route → t ≡ with_timer_reset last group s → AreMade at s t (more_flushes at s moment group + 1)
+at_once at s t moment group last calm due is made =
+    let g = flushed_group at s moment group calm due in
+    let interval = group_interval_of s.config group.route in
+    let k = more_flushes at s moment group in
+    let next = last + interval in
+    let soon : g.timer.next_flush ≤ at = subst (λ m. m ≤ at) (sym g.first) g.soon in
+    let late : g.timer.next_flush + k * interval ≤ at = subst (λ m. m + k * interval ≤ at) (sym g.first) (last_is at moment interval g.soon) in
+    let first = g.first in
+    let last_from : last ≡ g.timer.next_flush + k * interval = is ∙ ap (λ m. m + k * interval) (sym first) in
+    let next_is : next ≡ g.timer.next_flush + suc k * interval = omega (arith, last_from) in
+    let later : g.timer.next_flush ≤ next = omega (arith, last_from) in
+    let set : t ≡ set_at s group g.timer next = made ∙ reset_is last s group g.timer g.timed in
+    record {
+      calm = subst (IsCalm at) (sym set) (calm_after at s group g.timer next calm g.timed soon later);
+      counted = λ l.
+          let count : k + 1 + l ≡ suc (k + l) = omega arith in
+          let all : suc k ≡ k + 1 = omega arith in
+          ap (λ n. counted_run (advance n at s)) count
+          ∙ all_first at k l s group g.timer calm g.timed late
+          ∙ (λ i. plus_moves (counted_run (advance l at ((ap (set_at s group g.timer) (sym next_is) ∙ sym set) i))) (all i));
+      cache = λ cache holds. subst (IsTrueOf cache) (sym set) (stays_true s s.moment (set_at s group g.timer next).timers s.notes cache holds);
+    }
+
+le_of : (l k : ℕ) → l < k + 1 → l ≤ k
+le_of l k lt = omega (arith, lt)
+
+pub over_at_once : (at : Moment) (s : State) (moment : Moment) (group : RouteLabels) (l : ℕ) → IsCalm at s → next_due at s ≡ Some (due_at moment (timers.GroupFlush group))
+    → l < more_flushes at s moment group + 1 → counted_run (advance l at s) ≡ None
+over_at_once at s moment group l calm due over =
+    let g = flushed_group at s moment group calm due in
+    let interval = group_interval_of s.config group.route in
+    let last = last_is at moment interval g.soon in
+    let first = g.first in
+    let fewer = mul-le-mul_right interval (le_of l (more_flushes at s moment group) over) in
+    over_first at l s group g.timer calm g.timed (omega (arith, last, first, fewer))
+
+-- ---- what is found of all groups
+
+-- the group is quiet if it is due
+abbrev pub IsQuietIfDue : Moment → State → RouteLabels × GroupTimer → Type 0
+IsQuietIfDue at s entry = entry.1.next_flush ≤ at → IsQuietBeyond at s entry.0 entry.1
+
+abbrev pub AreQuiet : Moment → State → List (RouteLabels × GroupTimer) → Type 0
+AreQuiet at s = All (IsQuietIfDue at s)
+
+quiet_in : (at : Moment) (s : State) (es : List (RouteLabels × GroupTimer)) (entry : RouteLabels × GroupTimer) → AreQuiet at s es → In entry es → entry.1.next_flush ≤ at → IsQuietBeyond at s entry.0 entry.1
+quiet_in at s [] entry quiet among = absurd among
+quiet_in at s (e ∷ es) entry quiet (inl same) = λ soon.
+    subst (λ (x : RouteLabels × GroupTimer). IsQuietBeyond at s x.0 x.1) (sym same) (quiet 0 e (omega arith) (subst (λ (x : RouteLabels × GroupTimer). x.1.next_flush ≤ at) same soon))
+quiet_in at s (e ∷ es) entry quiet (inr among) = quiet_in at s es entry (λ n d less. quiet (suc n) d (omega (arith, less))) among
+
+pub calm_if_quiet : (at : Moment) (s : State) → AreNoneRemoved at s.alerts s.timers → AreQuiet at s (entries s.timers) → IsCalm at s
+calm_if_quiet at s removed quiet = record {
+  removed = removed;
+  flushed = λ group timer timed soon. quiet_in at s (entries s.timers) (group, timer) quiet (timer_among s.timers group timer timed) soon;
+}
+
+-- ---- each move has a weight
+
+weighs : (s : State) (d : Due) (kind : Kind) → 1 ≤ move_weight s d kind
+weighs s d AlertRemoval = omega arith
+weighs s d GroupRemoval = omega arith
+weighs s d GroupFlush = omega arith
+
+module _ (at : Moment) where
+  -- as many moves as were counted, or as the limit if there are more
+  abbrev pub Weighs : ℕ → State → Option (ℕ × State) → Type 0
+  Weighs l s None = l ≤ first_weight l at s
+  Weighs l s (Some run) = run.0 ≤ first_weight l at s
+
+  one_heavier : (l : ℕ) (s : State) (d : Due) (r : Option (ℕ × State)) → next_due at s ≡ Some d → Weighs l (move d s) r → Weighs (suc l) s (plus_moves r 1)
+  one_heavier l s d r next = by r
+    where
+      weight : first_weight (suc l) at s ≡ move_weight s d d.kind + first_weight l at (move d s)
+      weight = ap (λ (o : Option Due). option_map_or (λ x. move_weight s x x.kind + first_weight l at (move x s)) o 0) next
+
+      by : (r : Option (ℕ × State)) → Weighs l (move d s) r → Weighs (suc l) s (plus_moves r 1)
+      by None w = omega (arith, w, weight, weighs s d d.kind)
+      by (Some run) w = omega (arith, w, weight, weighs s d d.kind)
+
+  pub moves_weigh : (l : ℕ) (s : State) → Weighs l s (counted_run (advance l at s))
+  moves_weigh zero s = by (next_due at s) refl
+    where
+      by : (o : Option Due) → next_due at s ≡ o → Weighs zero s (counted_run (advance zero at s))
+      by None e = subst (Weighs zero s) (sym (advance_none zero at s e)) (omega arith)
+      by (Some d) e = subst (Weighs zero s) (sym (advance_over at s d e)) (omega arith)
+  moves_weigh (suc l) s = by (next_due at s) refl (λ d. moves_weigh l (move d s))
+    where
+      by : (o : Option Due) → next_due at s ≡ o → ((d : Due) → Weighs l (move d s) (counted_run (advance l at (move d s)))) → Weighs (suc l) s (counted_run (advance (suc l) at s))
+      by None e rest = subst (Weighs (suc l) s) (sym (advance_none (suc l) at s e)) (omega arith)
+      by (Some d) e rest = subst (Weighs (suc l) s) (sym (advance_some l at s d e)) (one_heavier l s d (counted_run (advance l at (move d s))) e (rest d))
+
+-- ---- that nothing is removed
+
+in_left : (d : Due) (xs ys : List Due) → IsIn d xs → IsIn d (xs ++ ys)
+in_left d [] ys h = absurd h
+in_left d (x ∷ xs) ys (inl e) = inl e
+in_left d (x ∷ xs) ys (inr h) = inr (in_left d xs ys h)
+
+in_filter_map : {A : Type 0} (f : A → Option Due) (e : A) (d : Due) (es : List A) → In e es → f e ≡ Some d → IsIn d (filter_map f es)
+in_filter_map f e d [] h is = absurd h
+in_filter_map f e d (x ∷ es) (inl same) is =
+    subst (λ o. IsIn d (cons_option o (filter_map f es))) (sym is ∙ ap f same) (inl refl)
+in_filter_map f e d (x ∷ es) (inr h) is = by (f x) (in_filter_map f e d es h is)
+  where
+    by : (o : Option Due) → IsIn d (filter_map f es) → IsIn d (cons_option o (filter_map f es))
+    by None rest = rest
+    by (Some y) rest = inr rest
+
+has_in : (d : Due) (dues : List Due) → IsIn d dues → IsTrue (has due_cmp dues d)
+has_in d [] h = absurd h
+has_in d (x ∷ dues) (inl same) = ap (λ y. eq_by_cmp due_cmp d y || has due_cmp dues d) (sym same) ∙ ap (λ o. is_eq o || has due_cmp dues d) (tied_itself due_cmp_total d)
+has_in d (x ∷ dues) (inr h) = or_right (eq_by_cmp due_cmp d x) (has due_cmp dues d) (has_in d dues h)
+
+-- if the first timer of a kind is after the moment, all of the kind are
+after_first : (at : Moment) (kind : Kind) (dues : List Due) (first : Option Due) → IsFirstOfKind kind dues first → IfSome first (λ due. at < due.moment)
+    → (d : Due) → d.kind ≡ kind → IsIn d dues → at < d.moment
+after_first at kind dues None is later d same among = absurd (true≢false (sym (has_in d dues among) ∙ is d same))
+after_first at kind dues (Some first) is later d same among =
+    let first_is : first.moment ≤ d.moment = not_later first d (is.1.1 d same (has_in d dues among)) in
+    omega (arith, later, first_is)
+
+pub none_removed : (at : Moment) (alerts : Alerts) (timers : Timers) (alert group : Option Due) → IsFirstOfKind AlertRemoval (dues_of alerts timers) alert
+    → IsFirstOfKind GroupRemoval (dues_of alerts timers) group → IfSome alert (λ due. at < due.moment) → IfSome group (λ due. at < due.moment) → AreNoneRemoved at alerts timers
+none_removed at alerts timers alert group first_alert first_group later_alert later_group = record {
+  of_alerts = λ labels stored got.
+      let d = alert_removal_of (labels, stored) in
+      let among = found_in label_set_cmp label_set_cmp_total label_set_cmp-IsAntisymmetric (entries alerts) labels stored (sym (get-entries alerts labels) ∙ got) in
+      after_first at AlertRemoval (dues_of alerts timers) alert first_alert later_alert d refl
+      (in_left d (map alert_removal_of (entries alerts) ++ filter_map group_removal_of (entries timers)) (map flush_of (entries timers))
+      (in_left d (map alert_removal_of (entries alerts)) (filter_map group_removal_of (entries timers)) (in_map alert_removal_of (labels, stored) (entries alerts) among)));
+  of_groups = λ key timer removal got is.
+      let d : Due = record { moment = removal; kind = GroupRemoval; route = key.route; labels = key.labels } in
+      after_first at GroupRemoval (dues_of alerts timers) group first_group later_group d refl
+      (in_left d (map alert_removal_of (entries alerts) ++ filter_map group_removal_of (entries timers)) (map flush_of (entries timers))
+      (in_right d (map alert_removal_of (entries alerts)) (filter_map group_removal_of (entries timers))
+      (in_filter_map group_removal_of (key, timer) d (entries timers) (timer_among timers key timer got) (removal_is key timer removal is))));
+}
+  where
+    removal_is : (key : RouteLabels) (timer : GroupTimer) (removal : Moment) → group_removal_at timer ≡ Some removal
+        → group_removal_of (key, timer) ≡ Some (record { moment = removal; kind = GroupRemoval; route = key.route; labels = key.labels })
+    removal_is key timer removal is = by timer.empty_since is
+      where
+        by : (o : Option Moment) → option_map (λ since. next_multiple_of since (30 * second)) o ≡ Some removal
+            → option_map {U = Due} (λ since. record { moment = next_multiple_of since (30 * second); kind = GroupRemoval; route = key.route; labels = key.labels }) o
+            ≡ Some (record { moment = removal; kind = GroupRemoval; route = key.route; labels = key.labels })
+        by None is = absurd (cc)
+        by (Some since) is = ap (option_map {U = Due} (λ m. record { moment = m; kind = GroupRemoval; route = key.route; labels = key.labels })) is
