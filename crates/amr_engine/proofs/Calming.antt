@@ -1,5 +1,5 @@
 -- Flushes of quiet groups can be made in any order, so those of one group can all be made first.
-use Rattle.std.specs.Prelude.{◌≡◌, ℕ, zero, suc, true, false, List, [], ◌∷◌, ◌++◌, Option, Some, None, ◌≤◌, ◌<◌, ◌+◌, ◌-◌, ◌*◌, ◌/◌, map, option_map, cond, ◌⊎◌, ◌||◌, IsTrue, IfSome}
+use Rattle.std.specs.Prelude.{◌≡◌, ℕ, zero, suc, Bool, true, false, IsSomeAnd, List, [], ◌∷◌, ◌++◌, Option, Some, None, ◌≤◌, ◌<◌, ◌+◌, ◌-◌, ◌*◌, ◌/◌, map, option_map, cond, ◌⊎◌, ◌||◌, IsTrue, IfSome}
 use Rattle.std.specs.List.{All, filter_map, cons_option}
 use Rattle.std.specs.Option.{option_map_or}
 use Rattle.std.specs.Ordering.{eq_by_cmp, is_eq}
@@ -23,13 +23,13 @@ use Rattle.amr_engine.specs.declared.state.due.Timer.{Timer}
 use Rattle.amr_engine.specs.declared.state.due.Timer.TheVariants as timers
 use Rattle.amr_engine.specs.State.Timed.{IsFirstOfKind}
 use Rattle.amr_tables.specs.Members.{has}
-use Rattle.amr_engine.specs.State.Dues.{Due, due_at, kind_of, due_cmp, due_cmp_total, dues_of, alert_removal_at, group_removal_at, alert_removal_of, group_removal_of, flush_of, next_due}
+use Rattle.amr_engine.specs.State.Dues.{Due, due_at, kind_of, due_cmp, due_cmp_total, due_cmp-IsAntisymmetric, dues_of, group_removal_at, alert_removal_of, group_removal_of, flush_of, next_due}
 use Rattle.amr_engine.specs.Quiet.{with_timer_reset}
-use Rattle.amr_engine.specs.Moves.{move, advance, counted_run}
+use Rattle.amr_engine.specs.Moves.{move, advance, counted_run, plus_moves}
 use Rattle.amr_engine.specs.Weight.{move_weight, first_weight}
 use Rattle.amr_engine.specs.Said.{IsIn}
 use Rattle.amr_engine.specs.Calm.{AreNoneRemoved, IsQuietBeyond, IsCalm}
-use Rattle.amr_engine.proofs.Cascade.{plus_moves, advance_none, advance_over, advance_some}
+use Rattle.amr_engine.proofs.Cascade.{advance_none, advance_over, advance_some, plus_twice}
 use Rattle.amr_engine.proofs.Lasting.{In, found_in, in_found, in_map, in_right, timer_among, from_map, from_filter_map, in_either, timer_got, alert_dues, empty_dues, flush_dues, dues_are, next_is_due, some_due}
 use Rattle.std.proofs.Math.Nat.{mul-le-mul_right}
 use Rattle.std.proofs.lemmas.Nat.{div-add-mod'}
@@ -102,6 +102,32 @@ pub reset_is : (m : Moment) (s : State) (group : RouteLabels) (timer : GroupTime
 reset_is m s group timer timed =
     ap (λ (o : Option GroupTimer). record s { timers = option_map_or (λ t. insert s.timers group (record t { next_flush = m + group_interval_of s.config group.route; flushed = true })) o s.timers }) timed
 
+-- ---- removals
+
+-- if none is removed up to the moment, a removal that is pending is later
+module _ (at : Moment) (alerts : Alerts) (timers : Timers) (none : AreNoneRemoved at alerts timers) where
+  later_of_group : (entry : RouteLabels × GroupTimer) (d : Due) → get timers entry.0 ≡ Some entry.1 → group_removal_of entry ≡ Some d → at < d.moment
+  later_of_group entry d timed is = by entry.1.empty_since refl is
+    where
+      by : (o : Option Moment) → entry.1.empty_since ≡ o
+          → option_map (λ since. record { moment = next_multiple_of since (30 * second); kind = GroupRemoval; route = entry.0.route; labels = entry.0.labels }) o ≡ Some d → at < d.moment
+      by None e is = absurd (cc)
+      by (Some since) e is =
+          let later : at < next_multiple_of since (30 * second) =
+          none.of_groups entry.0 entry.1 (next_multiple_of since (30 * second)) timed (ap (option_map (λ m. next_multiple_of m (30 * second))) e) in
+          let here : next_multiple_of since (30 * second) ≡ d.moment = ap (λ (o : Option Due). option_map_or (λ x. x.moment) o 0) is in
+          omega (arith, later, here)
+
+  pub removed_later : (d : Due) → IsIn d (map alert_removal_of (entries alerts) ++ filter_map group_removal_of (entries timers)) → at < d.moment
+  removed_later d among = elim (in_either d (map alert_removal_of (entries alerts)) (filter_map group_removal_of (entries timers)) among) [
+    | inl alert ↦
+        let e = from_map alert_removal_of d (entries alerts) alert in
+        subst (λ (x : Due). at < x.moment) (sym e.2) (none.of_alerts e.0.0 e.0.1 (alert_got alerts e.0.0 e.0.1 e.1))
+    | inr empty ↦
+        let e = from_filter_map group_removal_of d (entries timers) empty in
+        later_of_group e.0 d (timer_got timers e.0.0 e.0.1 e.1) e.2
+  ]
+
 -- ---- the next move
 
 module _ (at : Moment) where
@@ -113,18 +139,6 @@ module _ (at : Moment) where
     pub soon : timer.next_flush ≤ at
     pub is : d ≡ flush_of (group, timer)
     pub made : move d s ≡ set_at s group timer (timer.next_flush + group_interval_of s.config group.route)
-
-  no_removal : (s : State) (entry : RouteLabels × GroupTimer) (d : Due) → IsCalm at s → get s.timers entry.0 ≡ Some entry.1 → group_removal_of entry ≡ Some d → d.moment ≤ at → Resets s d
-  no_removal s entry d calm timed is soon = by entry.1.empty_since refl is
-    where
-      by : (o : Option Moment) → entry.1.empty_since ≡ o
-          → option_map (λ since. record { moment = next_multiple_of since (30 * second); kind = GroupRemoval; route = entry.0.route; labels = entry.0.labels }) o ≡ Some d → Resets s d
-      by None e is = absurd (cc)
-      by (Some since) e is =
-          let later : at < next_multiple_of since (30 * second) =
-          calm.removed.of_groups entry.0 entry.1 (next_multiple_of since (30 * second)) timed (ap (option_map (λ m. next_multiple_of m (30 * second))) e) in
-          let here : next_multiple_of since (30 * second) ≡ d.moment = ap (λ (o : Option Due). option_map_or (λ x. x.moment) o 0) is in
-          absurd (omega (arith, later, here, soon))
 
   resets_flush : (s : State) (entry : RouteLabels × GroupTimer) → IsCalm at s → get s.timers entry.0 ≡ Some entry.1 → entry.1.next_flush ≤ at → Resets s (flush_of entry)
   unfolding move
@@ -141,16 +155,9 @@ module _ (at : Moment) where
       }
 
   by_one : (s : State) (d : Due) → IsCalm at s → IsIn d (alert_dues s ++ empty_dues s) ⊎ IsIn d (flush_dues s) → d.moment ≤ at → Resets s d
-  by_one s d calm (inl removal) soon = elim (in_either d (alert_dues s) (empty_dues s) removal) [
-    | inl alert ↦
-        let e = from_map alert_removal_of d (entries s.alerts) alert in
-        let later : at < alert_removal_at e.0.1 = calm.removed.of_alerts e.0.0 e.0.1 (alert_got s.alerts e.0.0 e.0.1 e.1) in
-        let here : alert_removal_at e.0.1 ≤ at = subst (λ (x : Due). x.moment ≤ at) e.2 soon in
-        absurd (omega (arith, later, here))
-    | inr empty ↦
-        let e = from_filter_map group_removal_of d (entries s.timers) empty in
-        no_removal s e.0 d calm (timer_got s.timers e.0.0 e.0.1 e.1) e.2 soon
-  ]
+  by_one s d calm (inl removal) soon =
+      let later = removed_later at s.alerts s.timers calm.removed d removal in
+      absurd (omega (arith, later, soon))
   by_one s d calm (inr flushed) soon =
       let e = from_map flush_of d (entries s.timers) flushed in
       subst (Resets s) (sym e.2) (resets_flush s e.0 calm (timer_got s.timers e.0.0 e.0.1 e.1) (subst (λ (x : Due). x.moment ≤ at) e.2 soon))
@@ -245,10 +252,6 @@ module _ (at : Moment) where
       ∙ ap (λ (timers : Timers). plus_moves (counted_run (advance k at (record s { timers = timers }))) 1) (set_both s.timers other group _ _ differ)
       ∙ sym (any_first k (once s group timer) other its (once_calm s group timer calm timed soon) (got_other s.timers group other _ differ ∙ got) due))
 
-  plus_plus : (r : Option (ℕ × State)) (n : ℕ) → plus_moves (plus_moves r n) 1 ≡ plus_moves r (suc n)
-  plus_plus None n = refl
-  plus_plus (Some r) n = ap (λ k. Some (k, r.1)) (omega arith)
-
   -- and so can all of its flushes
   pub all_first : (k l : ℕ) (s : State) (group : RouteLabels) (timer : GroupTimer) → IsCalm at s → get s.timers group ≡ Some timer
       → timer.next_flush + k * group_interval_of s.config group.route ≤ at
@@ -268,10 +271,12 @@ module _ (at : Moment) where
       let rest : timer.next_flush + interval + k * interval ≤ at = omega (arith, late) in
       let next : timer.next_flush + interval + suc k * interval ≡ timer.next_flush + suc (suc k) * interval = omega arith in
       let count : suc k + l ≡ suc (k + l) = omega arith in
+      let one_more : 1 + suc k ≡ suc (suc k) = omega arith in
       any_first (suc k + l) s group timer calm timed soon
       ∙ ap (λ n. plus_moves (counted_run (advance n at (once s group timer))) 1) count
       ∙ ap (λ r. plus_moves r 1) (all_first k l (once s group timer) group after (once_calm s group timer calm timed soon) (got_own s.timers group after) rest)
-      ∙ plus_plus (counted_run (advance l at (later_by (once s group timer) group after (suc k)))) (suc k)
+      ∙ plus_twice (counted_run (advance l at (later_by (once s group timer) group after (suc k)))) (suc k) 1
+      ∙ ap (plus_moves (counted_run (advance l at (later_by (once s group timer) group after (suc k))))) one_more
       ∙ ap (λ (timers : Timers). plus_moves (counted_run (advance l at (record s { timers = timers }))) (suc (suc k)))
       (set_again s.timers group after (record timer { next_flush = timer.next_flush + interval + suc k * interval; flushed = true })
       ∙ ap (λ n. insert s.timers group (record timer { next_flush = n; flushed = true })) next)
@@ -328,10 +333,6 @@ more_flushes at s moment group = (at - moment) / group_interval_of s.config grou
 
 last_is : (at moment interval : ℕ) → moment ≤ at → moment + (at - moment) / interval * interval ≤ at
 last_is at moment interval soon = let rest = div-add-mod' (at - moment) interval in omega (arith, rest, soon)
-
-pub plus_more : (r : Option (ℕ × State)) (n made : ℕ) → plus_moves (plus_moves r n) made ≡ plus_moves r (made + n)
-plus_more None n made = refl
-plus_more (Some r) n made = ap (λ k. Some (k, r.1)) (omega arith)
 
 -- the flushes of a group, made at once
 pub record AreMade (at : Moment) (s t : State) (flushes : ℕ) : Type 0 where
@@ -462,6 +463,26 @@ after_first at kind dues None is later d same among = absurd (true≢false (sym 
 after_first at kind dues (Some first) is later d same among =
     let first_is : first.moment ≤ d.moment = not_later first d (is.1.1 d same (has_in d dues among)) in
     omega (arith, later, first_is)
+
+in_has : (d : Due) (dues : List Due) → IsTrue (has due_cmp dues d) → IsIn d dues
+in_has d [] h = absurd (true≢false (sym h))
+in_has d (x ∷ dues) h = by (eq_by_cmp due_cmp d x) refl h (in_has d dues)
+  where
+    by : (b : Bool) → eq_by_cmp due_cmp d x ≡ b → IsTrue (b || has due_cmp dues d) → (IsTrue (has due_cmp dues d) → IsIn d dues) → IsIn d (x ∷ dues)
+    by true is e rest = inl (due_cmp-IsAntisymmetric d x (equal _ is))
+    by false is e rest = inr (rest e)
+
+-- the first removal of a kind isn't due, if nothing is removed up to the moment
+pub first_is_later : (at : Moment) (alerts : Alerts) (timers : Timers) (kind : Kind) (first : Option Due) → AreNoneRemoved at alerts timers → (kind ≡ GroupFlush → ⊥)
+    → IsFirstOfKind kind (dues_of alerts timers) first → IsSomeAnd first (λ due. due.moment ≤ at) → ⊥
+first_is_later at alerts timers kind None none removal is due = due
+first_is_later at alerts timers kind (Some d) none removal is due =
+    elim (in_either d (map alert_removal_of (entries alerts) ++ filter_map group_removal_of (entries timers)) (map flush_of (entries timers)) (in_has d (dues_of alerts timers) is.1.0)) [
+      | inl removed ↦ let later = removed_later at alerts timers none d removed in absurd (omega (arith, later, due))
+      | inr flushed ↦
+          let e = from_map flush_of d (entries timers) flushed in
+          removal (sym is.0 ∙ ap (λ (x : Due). x.kind) e.2)
+    ]
 
 pub none_removed : (at : Moment) (alerts : Alerts) (timers : Timers) (alert group : Option Due) → IsFirstOfKind AlertRemoval (dues_of alerts timers) alert
     → IsFirstOfKind GroupRemoval (dues_of alerts timers) group → IfSome alert (λ due. at < due.moment) → IfSome group (λ due. at < due.moment) → AreNoneRemoved at alerts timers

@@ -7,11 +7,7 @@ use Rattle.amr_engine.specs.State.State.{State}
 use Rattle.amr_engine.specs.Runs.{after_step}
 use Rattle.amr_engine.specs.Events.{move_limit}
 use Rattle.amr_engine.specs.State.Dues.{Due, next_due}
-use Rattle.amr_engine.specs.Moves.{move, advance, counted_run}
-
--- this many moves more
-abbrev pub plus_moves : Option (ℕ × State) → ℕ → Option (ℕ × State)
-plus_moves run n = option_map (λ r. (r.0 + n, r.1)) run
+use Rattle.amr_engine.specs.Moves.{move, advance, counted_run, plus_moves}
 
 pub advance_none : (n : ℕ) (at : Moment) (s : State) → next_due at s ≡ None → counted_run (advance n at s) ≡ Some (0, s)
 advance_none zero at s e = ap (λ (o : Option Due). counted_run (option_map_or (λ d. None) o (Some ([], s)))) e
@@ -29,9 +25,9 @@ advance_some n at s d e =
     ap (λ (o : Option Due). counted_run (option_map_or (λ d. option_map (after_step (next_due at) move d) (advance n at (move d s))) o (Some ([], s)))) e
     ∙ one_longer d (advance n at (move d s)) at
 
-plus_twice : (r : Option (ℕ × State)) (n : ℕ) → plus_moves (plus_moves r 1) n ≡ plus_moves r (n + 1)
-plus_twice None n = refl
-plus_twice (Some r) n = ap (λ k. Some (k, r.1)) (omega arith)
+pub plus_twice : (r : Option (ℕ × State)) (m n : ℕ) → plus_moves (plus_moves r m) n ≡ plus_moves r (n + m)
+plus_twice None m n = refl
+plus_twice (Some r) m n = ap (λ k. Some (k, r.1)) (omega arith)
 
 pub plus_none : (r : Option (ℕ × State)) → plus_moves r 0 ≡ r
 plus_none None = refl
@@ -44,7 +40,7 @@ goes_on limit made at s before d so_far less some =
     let one : limit - made ≡ suc (limit - (made + 1)) = omega arith in
     so_far ∙ ap (λ n. plus_moves (counted_run (advance n at s)) made) one
     ∙ ap (λ r. plus_moves r made) (advance_some (limit - (made + 1)) at s d (sym some))
-    ∙ plus_twice (counted_run (advance (limit - (made + 1)) at (move d s))) made
+    ∙ plus_twice (counted_run (advance (limit - (made + 1)) at (move d s))) 1 made
 
 -- nothing more is due after this many moves
 pub stops : (limit made : ℕ) (at : Moment) (s before : State) → counted_run (advance limit at before) ≡ plus_moves (counted_run (advance (limit - made) at s)) made

@@ -52,8 +52,12 @@ pub first_weight-run : (limit : ℕ) (at : Moment) (s : State) → Follows limit
 first_weight-run zero at s r e = at_limit s r (next_due at s) e
 first_weight-run (suc n) at s r e = from_next n at s r (λ d. first_weight-run n at (move d s)) (next_due at s) e
 
-first_weight-some : (n : ℕ) (at : Moment) (s : State) (d : Due) → next_due at s ≡ Some d → first_weight (suc n) at s ≡ move_weight s d d.kind + first_weight n at (move d s)
+pub first_weight-some : (n : ℕ) (at : Moment) (s : State) (d : Due) → next_due at s ≡ Some d → first_weight (suc n) at s ≡ move_weight s d d.kind + first_weight n at (move d s)
 first_weight-some n at s d e = ap (λ (o : Option Due). option_map_or (λ d. move_weight s d d.kind + first_weight n at (move d s)) o 0) e
+
+pub first_weight-none : (n : ℕ) (at : Moment) (s : State) → next_due at s ≡ None → first_weight n at s ≡ 0
+first_weight-none zero at s e = refl
+first_weight-none (suc n) at s e = ap (λ (o : Option Due). option_map_or (λ d. move_weight s d d.kind + first_weight n at (move d s)) o 0) e
 
 -- before the first move
 pub none_spent : (limit : ℕ) (at : Moment) (s : State) (k : ℕ) → k + 2 * first_weight (limit - 0) at s ≤ k + 2 * first_weight limit at s

@@ -3,6 +3,7 @@ pub mod MovesLaws
 pub mod TickLaws
 pub mod RefusalLaws
 pub mod Cascade
+pub mod Ahead
 pub mod Endings
 pub mod Preparing
 pub mod Putting

@@ -1,5 +1,5 @@
 -- When nothing is due up to a moment but flushes that only set group timers.
-use Rattle.std.specs.Prelude.{◌≡◌, ◌≤◌, ◌<◌, Some}
+use Rattle.std.specs.Prelude.{◌≡◌, ◌≤◌, ◌<◌, ◌-◌, ℕ, Option, Some, None}
 use Rattle.amr_labels.specs.Map.{Map, get}
 use Rattle.amr_labels.specs.Labels.{LabelSet}
 use Rattle.amr_time.specs.Time.{Moment}
@@ -11,7 +11,10 @@ use Rattle.amr_rules.specs.Muting.{Alerts}
 use Rattle.amr_engine.specs.declared.state.notification.GroupTimer.{GroupTimer}
 use Rattle.amr_engine.specs.State.State.{State}
 use Rattle.amr_engine.specs.State.Dues.{alert_removal_at, group_removal_at}
+use Rattle.amr_engine.specs.Moves.{advance, counted_run, plus_moves}
 use Rattle.amr_engine.specs.Quiet.{IsQuiet}
+use Rattle.amr_engine.specs.QuietMoves.{after_first_moves}
+use Rattle.amr_engine.specs.Weight.{first_weight}
 
 -- neither an alert nor a group is removed up to the moment
 pub record AreNoneRemoved (at : Moment) (alerts : Alerts) (timers : Map route_labels_cmp GroupTimer) : Type 0 where
@@ -31,3 +34,14 @@ pub record IsQuietBeyond (at : Moment) (s : State) (group : RouteLabels) (timer 
 pub record IsCalm (at : Moment) (s : State) : Type 0 where
   pub removed : AreNoneRemoved at s.alerts s.timers
   pub flushed : (group : RouteLabels) (timer : GroupTimer) → get s.timers group ≡ Some timer → timer.next_flush ≤ at → IsQuietBeyond at s group timer
+
+-- The first moves up to the moment lead from one state to the other, and so many are made; or there
+-- are more than are left.
+abbrev pub IsPartMade : (left : ℕ) (at : Moment) (s t : State) → Option ℕ → Type 0
+IsPartMade left at s t (Some made) = (made ≤ left) × (t ≡ after_first_moves made s) × (counted_run (advance left at s) ≡ plus_moves (counted_run (advance (left - made) at t)) made)
+IsPartMade left at s t None = counted_run (advance left at s) ≡ None
+
+-- the weight of the moves that are not made yet
+abbrev pub weight_left : (left : ℕ) (at : Moment) (t : State) → Option ℕ → ℕ
+weight_left left at t (Some made) = first_weight (left - made) at t
+weight_left left at t None = 0

@@ -1,14 +1,14 @@
-//! Many moves at once. If nothing is due up to a moment but flushes of groups that stay quiet until
-//! after it, each group's timer is set once, past the moment, however often the group is flushed
+//! Many moves at once. While nothing is due but flushes of groups that stay quiet, each group's timer
+//! is set once, past the last moment of which that is known, however often the group is flushed
 //! before. `moves.rt` looks for this after some moves of an event, since few events make so many.
-ghost use Rattle.std.specs.Prelude.{◌≡◌, ◌≤◌, ◌<◌, ◌+◌, ◌*◌, ◌-◌, ◌/◌, true, OnOk, IfOk, IfSome};
+ghost use Rattle.std.specs.Prelude.{◌≡◌, ◌≤◌, ◌<◌, ◌+◌, ◌*◌, ◌-◌, ◌/◌, ℕ, length, OnOk, IfOk, IfSome};
 ghost use Rattle.amr_time.specs.Time.{latest_read};
 ghost use Rattle.amr_engine.specs.State.Kept.{GrownBy, before_open_record};
 ghost use Rattle.amr_engine.specs.declared.quiet.QuietGroups.{QuietGroups as cached};
 ghost use Rattle.amr_engine.specs.CachedQuiet.{IsTrueOf};
 ghost use Rattle.amr_engine.specs.Moves.{advance, counted_run, moves_to};
 ghost use Rattle.amr_engine.specs.Weight.{first_weight};
-ghost use Rattle.amr_engine.specs.Calm.{IsCalm, IsQuietBeyond};
+ghost use Rattle.amr_engine.specs.Calm.{AreNoneRemoved, IsCalm, IsQuietBeyond, IsPartMade, weight_left};
 
 use crate::flush::reset_timer;
 use crate::quiet::QuietGroups;
@@ -17,78 +17,93 @@ use amr_config::RouteLabels;
 use amr_time::{Moment, Span};
 use std::alloc::AllocError;
 
-/// Returns true only if nothing is due up to a moment but flushes of groups that are cached as quiet
-/// until after it. It looks at each group, if it is so of the one that is flushed next.
-pub(crate) fn is_calm(
-    store: &Store,
+/// Makes at once those of the moves up to a moment that are flushes of groups that stay quiet, and
+/// before which no other is due. Returns how many it made, or `None` if more than `left` are due.
+pub(crate) fn make_at_once(
+    store: &mut Store,
     quiet_groups: &QuietGroups,
     at: Moment,
-) -> Result<bool, AllocError>
-    requires { IsTrueOf quiet_groups.now store.now.state }
-    ensures { IfOk result (λ calm. calm ≡ true → IsCalm at store.now.state) }
+    left: usize,
+) -> Result<Option<usize>, AllocError>
+    requires late { at ≤ latest_read }
+    requires cache { IsTrueOf quiet_groups.now store.old.state }
+    ensures made { IfOk result (λ made. IsPartMade left at store.old.state store.new.state made) }
+    ensures kept { before_open_record store.new ≡ before_open_record store.old }
+    ensures grown { IfOk result (λ made. length store.new.current
+        + 2 * weight_left left at store.new.state made
+        ≤ length store.old.current + 2 * first_weight left at store.old.state) }
+    ensures cache { OnOk result (IsTrueOf quiet_groups.now store.new.state) }
 {
-    if store.is_removal_due(at) {
-        return Ok(false);
-    }
-    if !is_next_calm(store, quiet_groups, at)? {
-        return Ok(false);
-    }
-    let timers = store.timers().sorted(store.alloc())?;
-    for &(group, timer) in timers.as_slice() {
-        if !is_calm_group(store, quiet_groups, at, group, timer) {
-            return Ok(false);
+    match calm_until(store, quiet_groups, at)? {
+        None => Ok(Some(0)),
+        Some(until) => {
+            let made = make_calm_moves(store, until, left)?;
+            Ok(made)
         }
     }
-    Ok(true)
 }
 
-/// Returns whether the group that is flushed next is cached as quiet until after a moment. If it
-/// isn't, the others needn't be looked at.
-fn is_next_calm(store: &Store, quiet_groups: &QuietGroups, at: Moment) -> Result<bool, AllocError>
-    requires { IsTrueOf quiet_groups.now store.now.state }
-{
-    let Some(due) = store.next_due(at)? else {
-        return Ok(false);
-    };
-    let Due { timer, .. } = due;
-    let Timer::GroupFlush(group) = timer else {
-        return Ok(false);
-    };
-    match store.timers().get(&group) {
-        None => Ok(false),
-        Some(timer) => Ok(is_calm_group(store, quiet_groups, at, &group, timer)),
-    }
-}
-
-/// Returns true only if a group with this timer isn't flushed up to a moment, or is cached as quiet
-/// until after it.
-fn is_calm_group(
+/// Returns the last moment up to which nothing is due but flushes of groups that are cached as quiet
+/// until after it, if such a moment is found. It isn't later than `at`.
+fn calm_until(
     store: &Store,
     quiet_groups: &QuietGroups,
     at: Moment,
+) -> Result<Option<Moment>, AllocError>
+    requires late { at ≤ latest_read }
+    requires cache { IsTrueOf quiet_groups.now store.now.state }
+    ensures { IfOk result (λ until. IfSome until (λ until. (until ≤ at)
+        × IsCalm until store.now.state)) }
+{
+    let end = calm_end(store, quiet_groups, at)?;
+    if end == 0 {
+        return Ok(None);
+    }
+    let until = Moment::from_nanoseconds(end - 1);
+    if store.is_removal_due(until) {
+        return Ok(None);
+    }
+    Ok(Some(until))
+}
+
+/// Returns until when all groups that are flushed are cached as quiet, in nanoseconds since 1970. It
+/// looks no further than `at`.
+fn calm_end(store: &Store, quiet_groups: &QuietGroups, at: Moment) -> Result<u128, AllocError>
+    requires { IsTrueOf quiet_groups.now store.now.state }
+    ensures within { IfOk result (λ end. end ≤ at + 1) }
+    ensures calm { IfOk result (λ end. (last : ℕ) → last < end
+        → AreNoneRemoved last store.now.state.alerts store.now.state.timers
+        → IsCalm last store.now.state) }
+{
+    let mut end = at.nanoseconds() + 1;
+    let timers = store.timers().sorted(store.alloc())?;
+    for &(group, timer) in timers.as_slice() {
+        end = end.min(calm_end_of(store, quiet_groups, group, timer));
+    }
+    Ok(end)
+}
+
+/// Returns until when each flush of a group with this timer is known to be quiet, in nanoseconds
+/// since 1970.
+fn calm_end_of(
+    store: &Store,
+    quiet_groups: &QuietGroups,
     group: &RouteLabels,
     timer: &GroupTimer,
-) -> bool
+) -> u128
     requires { IsTrueOf quiet_groups.now store.now.state }
-    ensures { result ≡ true → timer.now.next_flush ≤ at
-        → IsQuietBeyond at store.now.state group.now timer.now }
+    ensures { (last : ℕ) → last < result → timer.now.next_flush ≤ last
+        → IsQuietBeyond last store.now.state group.now timer.now }
 {
-    if at < timer.next_flush {
-        return true;
-    }
     if store.config().group_interval(group.route).nanoseconds() == 0 {
-        return false;
+        return timer.next_flush.nanoseconds();
     }
-    quiet_groups.is_quiet_beyond(group, timer.next_flush, at)
+    quiet_groups.quiet_from(group, timer.next_flush)
 }
 
 /// Makes every move due at or before a moment, which are all flushes of groups that stay quiet.
 /// Returns how many there were, or `None` if there are more than `left`.
-pub(crate) fn make_calm_moves(
-    store: &mut Store,
-    at: Moment,
-    left: usize,
-) -> Result<Option<usize>, AllocError>
+fn make_calm_moves(store: &mut Store, at: Moment, left: usize) -> Result<Option<usize>, AllocError>
     requires late { at ≤ latest_read }
     requires calm { IsCalm at store.old.state }
     ensures made { IfOk result (λ made. moves_to store.new.state made

@@ -1,25 +1,26 @@
 //! The moves of an event: the timers that fire at or before a moment, the earliest first. A move is
 //! the removal of an alert, the removal of a group, or the flush of a group (`flush.rt`).
-ghost use Rattle.std.specs.Prelude.{◌≡◌, ◌≤◌, ◌*◌, true, OnOk, IfOk};
+ghost use Rattle.std.specs.Prelude.{◌≡◌, ◌≤◌, ◌+◌, ◌-◌, ◌*◌, true, length, OnOk, IfOk};
 ghost use Rattle.amr_time.specs.Time.{latest_read};
 ghost use Rattle.amr_engine.specs.State.Kept.{GrownBy, before_open_record};
 ghost use Rattle.amr_engine.specs.CachedQuiet.{IsTrueOf};
 ghost use Rattle.amr_engine.specs.Moves.{move, advance, counted_run, moves_to};
 ghost use Rattle.amr_engine.specs.Events.{move_limit};
 ghost use Rattle.amr_engine.specs.Weight.{move_weight, first_weight};
+ghost use Rattle.amr_engine.specs.Calm.{IsPartMade, weight_left};
 ghost use Rattle.amr_engine.specs.QuietMoves.{OnlySets, AreQuietMoves};
 
-use crate::calm::{is_calm, make_calm_moves};
+use crate::calm::make_at_once;
 use crate::flush::{flush, reset_timer};
 use crate::quiet::QuietGroups;
 use crate::quiet_moves::QuietMoves;
 use crate::state::{Change, Due, Store, Timer};
-use crate::too_many::{MOST_MOVES, are_too_many};
+use crate::too_many::{MOST_MOVES, is_one_beyond};
 use amr_time::Moment;
 use std::alloc::AllocError;
 
-/// After how many moves of an event it is asked at the earliest whether the others are calm.
-const FEWEST_BEFORE_CALM: usize = 64;
+/// After how many moves an event looks at all groups at the earliest.
+const FEWEST_BEFORE_LOOK: usize = 64;
 
 /// Makes every move due at or before a moment, and returns how many there were. Returns `None` if
 /// there are more than `MOST_MOVES`, which it may find out before it makes so many; the caller then
@@ -42,37 +43,79 @@ pub(crate) fn advance(
     ensures cache { OnOk result (IsTrueOf quiet_groups.new store.new.state) }
     ensures quiet { AreQuietMoves quiet_moves.new store.old.state }
 {
-    let before_look = moves_before_calm(store);
-    for made in 0..MOST_MOVES {
-        if are_too_many(store, at, made)? {
+    let mut look = Look::new(store);
+    let mut made: usize = 0;
+    while let Some(due) = store.next_due(at)? {
+        if made >= MOST_MOVES {
             return Ok(None);
         }
-        if made == before_look && is_calm(store, quiet_groups, at)? {
-            let Some(more) = make_calm_moves(store, at, MOST_MOVES - made)? else {
-                return Ok(None);
-            };
-            return Ok(Some(made + more));
-        }
-        match store.next_due(at)? {
-            None => return Ok(Some(made)),
-            Some(due) => {
-                let is_quiet = make(store, quiet_groups, due, quiet_moves.is_quiet(made))?;
-                // (without memory for it, neither this move nor those after it are noted)
-                let _forgotten = quiet_moves.note(made, is_quiet);
-            }
-        }
+        let is_quiet = make(store, quiet_groups, due, quiet_moves.is_quiet(made))?;
+        // (without memory for it, neither this move nor those after it are noted)
+        let _forgotten = quiet_moves.note(made, is_quiet);
+        made += 1;
+        let Some(more) = look_ahead(store, quiet_groups, &mut look, at, made)? else {
+            return Ok(None);
+        };
+        made += more;
     }
-    if store.next_due(at)?.is_some() {
-        return Ok(None);
-    }
-    Ok(Some(MOST_MOVES))
+    Ok(Some(made))
 }
 
-/// Returns after how many moves of an event it is asked whether the others are calm: two for each
-/// group, since all are looked at then, and not few.
-fn moves_before_calm(store: &Store) -> usize {
-    let groups = store.timers().next_number();
-    groups.saturating_mul(2).max(FEWEST_BEFORE_CALM)
+/// When an event next looks at all groups, counted in moves. It does so after two moves for each
+/// group, and not after few, and later if it pays less.
+#[derive(Drop)]
+struct Look {
+    wait: usize,
+    next: usize,
+}
+
+impl Look {
+    /// Builds it for an event before its first move.
+    fn new(store: &Store) -> Look {
+        let wait = store.timers().next_number().saturating_mul(2);
+        let wait = wait.max(FEWEST_BEFORE_LOOK);
+        Look { wait, next: wait }
+    }
+
+    /// Puts the next look off, given how many moves the last one was worth.
+    fn put_off(&mut self, made: usize, worth: usize) {
+        if worth < self.wait {
+            self.wait = self.wait.saturating_mul(2);
+        }
+        self.next = made.saturating_add(worth).saturating_add(self.wait);
+    }
+}
+
+/// Looks at all groups if it is time to: whether one alone is flushed too often, and which moves can
+/// be made at once. Returns how many it made, or `None` if more than are left after `made` are due.
+fn look_ahead(
+    store: &mut Store,
+    quiet_groups: &QuietGroups,
+    look: &mut Look,
+    at: Moment,
+    made: usize,
+) -> Result<Option<usize>, AllocError>
+    requires late { at ≤ latest_read }
+    requires within { made ≤ move_limit }
+    requires cache { IsTrueOf quiet_groups.now store.old.state }
+    ensures made { IfOk result (λ more.
+        IsPartMade (move_limit - made) at store.old.state store.new.state more) }
+    ensures kept { before_open_record store.new ≡ before_open_record store.old }
+    ensures grown { IfOk result (λ more. length store.new.current
+        + 2 * weight_left (move_limit - made) at store.new.state more
+        ≤ length store.old.current + 2 * first_weight (move_limit - made) at store.old.state) }
+    ensures cache { OnOk result (IsTrueOf quiet_groups.now store.new.state) }
+{
+    if made < look.next {
+        return Ok(Some(0));
+    }
+    let left = MOST_MOVES - made;
+    if is_one_beyond(store, at, left)? {
+        return Ok(None);
+    }
+    let more = make_at_once(store, quiet_groups, at, left)?;
+    look.put_off(made, more.unwrap_or(0));
+    Ok(more)
 }
 
 /// Fires a timer: removes an alert or a group, or flushes a group. Returns whether this is known to

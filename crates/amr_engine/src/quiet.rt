@@ -115,20 +115,23 @@ impl QuietGroups {
         }
     }
 
-    /// Returns true only if a group is cached as quiet from a moment until after another.
-    pub(crate) fn is_quiet_beyond(&self, group: &RouteLabels, first: Moment, last: Moment) -> bool
-        ensures { result ≡ true → (s : State) → IsTrueOf self.now s → (from : moment)
-            × (until : moment) × (from ≤ first) × (last < until) × IsQuiet s group.now from until }
+    /// Returns until when a group is cached as quiet from a moment on, in nanoseconds since 1970.
+    /// That is the moment itself if it isn't cached as quiet then.
+    pub(crate) fn quiet_from(&self, group: &RouteLabels, first: Moment) -> u128
+        ensures { (last : moment) → last < result → first ≤ last → (s : State) → IsTrueOf self.now s
+            → (from : moment) × (until : moment) × (from ≤ first) × (last < until)
+            × IsQuiet s group.now from until }
     {
         let Some(time) = self.times.get(group) else {
-            return false;
+            return first.nanoseconds();
         };
-        if !time.period.covers(first) || time.period.until <= last.nanoseconds() {
-            return false;
+        if !time.period.covers(first) {
+            return first.nanoseconds();
         }
         match time.generation {
-            None => true,
-            Some(generation) => generation == self.generation,
+            None => time.period.until,
+            Some(generation) if generation == self.generation => time.period.until,
+            Some(_) => first.nanoseconds(),
         }
     }
 

@@ -1,7 +1,7 @@
 //! Whether one group alone is flushed more often than an event may make moves. Such an event is
 //! refused without making all its moves first, and keeping their notifications until they are
 //! undone.
-ghost use Rattle.std.specs.Prelude.{◌≡◌, ◌≤◌, ◌<◌, ◌-◌, ◌+◌, true, length, IfOk, None};
+ghost use Rattle.std.specs.Prelude.{◌≡◌, ◌≤◌, ◌<◌, ◌+◌, true, length, IfOk, None};
 ghost use Rattle.amr_engine.specs.State.State as state;
 ghost use Rattle.amr_engine.specs.declared.state.notification.GroupTimer as specs;
 ghost use Rattle.amr_engine.specs.Events.{move_limit};
@@ -18,25 +18,9 @@ use std::alloc::AllocError;
 /// The most moves that one event may make. It bounds the work of an event far in the future.
 pub(crate) const MOST_MOVES: usize = 1_000_000;
 
-/// After how many moves of an event the groups are looked at. Few events make so many.
-const MOVES_BEFORE_LOOK: usize = 1_000;
-
-/// Returns true only if an event that has made `made` moves would make too many up to a moment. It
-/// looks at the groups once in an event.
-pub(crate) fn are_too_many(store: &Store, at: Moment, made: usize) -> Result<bool, AllocError>
-    requires { made < move_limit }
-    ensures { IfOk result (λ many. many ≡ true
-        → advance (move_limit - made) at store.now.state ≡ None) }
-{
-    if made != MOVES_BEFORE_LOOK {
-        return Ok(false);
-    }
-    is_one_beyond(store, at, MOST_MOVES - made)
-}
-
 /// Returns true only if one group alone is flushed more than `left` times up to a moment. It takes
 /// the groups in the order of their numbers, since it needs no other.
-fn is_one_beyond(store: &Store, at: Moment, left: usize) -> Result<bool, AllocError>
+pub(crate) fn is_one_beyond(store: &Store, at: Moment, left: usize) -> Result<bool, AllocError>
     requires { left ≤ move_limit }
     ensures { IfOk result (λ beyond. beyond ≡ true → advance left at store.now.state ≡ None) }
 {

@@ -1,7 +1,7 @@
 //! The pending timers of alerts and groups: for how many of them room is made, and the first of them,
 //! which borrows its labels or its group. `alert_table.rt` and `roster.rt` keep the moments, which go
 //! by the numbers of what they are of; nothing is fired here.
-ghost use Rattle.std.specs.Prelude.{◌≡◌, ◌+◌, ◌<◌, false, option_map, IfOk, IfSome};
+ghost use Rattle.std.specs.Prelude.{◌≡◌, ◌+◌, ◌<◌, ◌≤◌, true, false, option_map, IfOk, IfSome, IsSomeAnd};
 ghost use Rattle.amr_tables.specs.Numbered.{next_number, IsNumbering};
 ghost use Rattle.amr_engine.specs.State.Dues.{due_by};
 ghost use Rattle.amr_engine.specs.State.Timed.{timer_of, due_of, earlier};
@@ -57,7 +57,10 @@ pub(crate) struct Pending<'a> {
 
 /// Returns whether a timer is pending at or before a moment.
 pub(crate) fn is_due(at: Moment, first: Option<Pending<'_>>) -> bool
-    ensures { result ≡ false → IfSome (option_map due_of first.entry) (λ due. at < due.moment) }
+    ensures later { result ≡ false
+        → IfSome (option_map due_of first.entry) (λ due. at < due.moment) }
+    ensures due { result ≡ true
+        → IsSomeAnd (option_map due_of first.entry) (λ due. due.moment ≤ at) }
 {
     match first {
         None => false,

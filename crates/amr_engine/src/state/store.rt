@@ -3,7 +3,7 @@
 //! event can be undone. It decides nothing about alerts, groups or silences, but it asks `amr_rules`
 //! whether an entry of the notification log is due, and what is stored of a new alert, since it finds
 //! what was there before.
-ghost use Rattle.std.specs.Prelude.{◌≡◌, ◌≤◌, ◌<◌, ◌+◌, ◌++◌, ◌∷◌, ◌==◌, [], ℕ, false, Option, Some, None, length, OnOk, IfOk, IfSome};
+ghost use Rattle.std.specs.Prelude.{◌≡◌, ◌↔◌, ◌≤◌, ◌<◌, ◌+◌, ◌++◌, ◌∷◌, ◌==◌, [], ℕ, false, Option, Some, None, length, OnOk, IfOk, IfSome};
 ghost use Rattle.std.specs.Prelude.{if◌then◌else◌, is_some, option_map, slice_get};
 ghost use Rattle.std.specs.Option.{option_copied};
 ghost use Rattle.std.specs.Ordering.{nat_cmp};
@@ -322,7 +322,7 @@ impl Store {
     /// Returns whether an alert or a group is removed at or before a moment.
     pub fn is_removal_due(&self, at: Moment) -> bool
         ensures { result ≡ false
-            → AreNoneRemoved at self.now.state.alerts self.now.state.timers }
+            ↔ AreNoneRemoved at self.now.state.alerts self.now.state.timers }
     {
         self.tables.is_removal_due(at)
     }

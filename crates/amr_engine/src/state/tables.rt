@@ -1,7 +1,7 @@
 //! The representation of the state: the clock, the tables and the notifications, with the marks of
 //! what the open record has entries for. `Store` owns it, appends notifications and drops them;
 //! `displace` is the one way to change it otherwise.
-ghost use Rattle.std.specs.Prelude.{◌≡◌, false, Some, IsTrue, IfOk, not};
+ghost use Rattle.std.specs.Prelude.{◌≡◌, ◌↔◌, false, Some, IsTrue, IfOk, not};
 ghost use Rattle.amr_tables.specs.Numbered.{map_of, has_place, number_of, KeepsPlaces, SameEntered};
 ghost use Rattle.amr_labels.specs.Labels.{label_set_cmp};
 ghost use Rattle.amr_config.specs.RouteLabels.{route_labels_cmp};
@@ -128,7 +128,7 @@ impl Tables {
 
     /// Returns whether an alert or a group is removed at or before a moment.
     pub(crate) fn is_removal_due(&self, at: Moment) -> bool
-        ensures { result ≡ false → AreNoneRemoved at (map_of label_set_cmp self.now.alerts)
+        ensures { result ≡ false ↔ AreNoneRemoved at (map_of label_set_cmp self.now.alerts)
             (map_of route_labels_cmp self.now.roster.timers) }
     {
         is_due(at, self.alerts.first_removal()) || is_due(at, self.roster.first_removal())

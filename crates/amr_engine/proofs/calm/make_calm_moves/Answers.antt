@@ -2,10 +2,10 @@ use Rattle.std.proofs.Common.{◌≡◌, ◌<◌, ◌≤◌, ◌+◌, ◌-◌, �
 use Rattle.amr_config.specs.Routing.{group_interval_of}
 use Rattle.amr_engine.specs.State.State.{State}
 use Rattle.amr_engine.specs.State.Dues.{due_at}
-use Rattle.amr_engine.specs.Moves.{advance, counted_run}
+use Rattle.amr_engine.specs.Moves.{advance, counted_run, plus_moves}
 use Rattle.amr_engine.specs.Weight.{first_weight}
-use Rattle.amr_engine.proofs.Cascade.{plus_moves, stops}
-use Rattle.amr_engine.proofs.Calming.{only_flushes, are_apart, more_flushes, at_once, over_at_once, plus_more, Weighs, moves_weigh}
+use Rattle.amr_engine.proofs.Cascade.{plus_twice, stops}
+use Rattle.amr_engine.proofs.Calming.{only_flushes, are_apart, more_flushes, at_once, over_at_once, Weighs, moves_weigh}
 use Rattle.amr_engine.proofs.calm.make_calm_moves.Goals as goal
 
 pub unreachable-requires : goal.unreachable-requires
@@ -82,7 +82,7 @@ loop-due-preserved c =
       ok = inv.ok
           ∙ ap (λ n. plus_moves (counted_run (advance n at s)) made) split
           ∙ ap (λ r. plus_moves r made) (all.counted rest)
-          ∙ plus_more (counted_run (advance rest at t)) count made
+          ∙ plus_twice (counted_run (advance rest at t)) count made
           ∙ ap (λ n. plus_moves (counted_run (advance rest at t)) (made + n)) (sym flushes);
       calm = all.calm;
       kept = c.in_ok-reset_timer.ensures.kept ∙ inv.kept;

@@ -1,10 +1,9 @@
 use Rattle.std.proofs.Common.{◌≡◌, ◌≤◌, ◌+◌, ◌-◌, length}
 use Rattle.amr_engine.specs.CachedQuiet.{IsTrueOf}
 use Rattle.amr_engine.specs.declared.quiet.QuietGroups.{QuietGroups}
-use Rattle.amr_engine.specs.Moves.{advance, counted_run}
+use Rattle.amr_engine.specs.Moves.{advance, counted_run, plus_moves}
 use Rattle.amr_engine.specs.Calm.{IsCalm}
 use Rattle.amr_engine.specs.State.Kept.{before_open_record}
-use Rattle.amr_engine.proofs.Cascade.{plus_moves}
 use Rattle.amr_engine.proofs.calm.make_calm_moves.Given as goal
 
 -- the moves made so far and those that are left are all, and no more entries were made than moves
