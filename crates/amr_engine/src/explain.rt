@@ -12,7 +12,7 @@ use crate::state::{GroupTimer, Store, group_key};
 use crate::verdict::{Finding, Verdict};
 use amr_config::RouteLabels;
 use amr_config::stated::Integration;
-use amr_labels::{Labels, Text};
+use amr_labels::{Labels, Shared, Text};
 use amr_rules::{Alert, LogEntry};
 use std::alloc::AllocError;
 
@@ -172,11 +172,13 @@ fn heard(
 
 /// Returns what the log entry says: the integration was notified that the alert fires, or the next
 /// flush decides.
-fn logged(labels: &Labels, timer: &GroupTimer, entry: Option<&LogEntry>) -> Finding
+fn logged(labels: &Labels, timer: &GroupTimer, entry: Option<&Shared<LogEntry>>) -> Finding
     ensures { result ≡ finding_of_entry labels.now timer.now (option_copied entry.entry) }
 {
     match entry {
-        Some(entry) if entry.firing.get(labels).is_some() => Finding::Told { at: entry.time },
+        Some(entry) if entry.get().firing.get(labels).is_some() => Finding::Told {
+            at: entry.get().time,
+        },
         _ => Finding::Due {
             at: timer.next_flush,
         },

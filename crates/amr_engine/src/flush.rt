@@ -268,7 +268,7 @@ fn partition_of(alloc: Global, at: Moment, members: Vec<Member>) -> Result<Parti
     let mut firing = Vec::new(alloc);
     let mut resolved = Vec::new(alloc);
     for (labels, alert) in members {
-        if alert.is_resolved_at(at) {
+        if alert.get().is_resolved_at(at) {
             resolved.push((labels, alert))?;
         } else {
             firing.push((labels, alert))?;
@@ -419,8 +419,8 @@ fn notified_firing(alloc: Global, members: &[Member]) -> Result<Listing<FiringAl
     for (labels, alert) in members {
         notified.push(FiringAlert {
             labels: labels.clone()?,
-            starts_at: alert.starts_at,
-            annotations: alert.annotations.clone()?,
+            starts_at: alert.get().starts_at,
+            annotations: alert.get().annotations.clone()?,
         })?;
     }
     Ok(Listing::from_vec(notified))
@@ -437,9 +437,9 @@ fn notified_resolved(
     for (labels, alert) in members {
         notified.push(ResolvedAlert {
             labels: labels.clone()?,
-            starts_at: alert.starts_at,
-            ends_at: alert.ends_at,
-            annotations: alert.annotations.clone()?,
+            starts_at: alert.get().starts_at,
+            ends_at: alert.get().ends_at,
+            annotations: alert.get().annotations.clone()?,
         })?;
     }
     Ok(Listing::from_vec(notified))
@@ -494,7 +494,7 @@ fn drop_each_resolved(
     ensures grown { GrownBy (length members.now) store.old store.new }
 {
     for (labels, alert) in members {
-        if alert.is_resolved_at(at) {
+        if alert.get().is_resolved_at(at) {
             let member = Membership::new(group, labels)?;
             store.change(Change::OfMember(member, None))?;
         }
@@ -507,7 +507,7 @@ fn are_resolved(at: Moment, members: &[Member]) -> bool
     ensures { result ≡ list_all (λ member. is_resolved_at at member.1) members.now }
 {
     for (_, alert) in members {
-        if !alert.is_resolved_at(at) {
+        if !alert.get().is_resolved_at(at) {
             return false;
         }
     }

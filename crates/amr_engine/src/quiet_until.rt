@@ -14,6 +14,7 @@ use crate::log_key::log_key;
 use crate::state::{Member, Store};
 use amr_config::stated::Integration;
 use amr_config::{Config, RouteLabels};
+use amr_labels::Shared;
 use amr_rules::{LogEntry, is_due_while_firing};
 use amr_time::Moment;
 use std::alloc::AllocError;
@@ -90,7 +91,7 @@ pub(crate) fn first_end(members: &[Member], until: u128) -> u128
 {
     let mut until = until;
     for (_, alert) in members {
-        until = until.min(alert.ends_at.nanoseconds());
+        until = until.min(alert.get().ends_at.nanoseconds());
     }
     until
 }
@@ -153,6 +154,7 @@ fn repeat_of(
     let Some(entry) = logged_entry(store, group, integration)? else {
         return Ok(None);
     };
+    let entry = entry.get();
     if entry.firing.len() < through.len() {
         return Ok(None);
     }
@@ -168,7 +170,7 @@ fn logged_entry<'s>(
     store: &'s Store,
     group: &RouteLabels,
     integration: &Integration,
-) -> Result<Option<&'s LogEntry>, AllocError>
+) -> Result<Option<&'s Shared<LogEntry>>, AllocError>
     ensures { IfOk result (λ entry. option_copied entry ≡ get store.now.state.log
         (log_key_of store.now.state.config group.now integration.now)) }
 {
@@ -209,7 +211,7 @@ fn alert_end(store: &Store, at: Moment, until: u128) -> u128
 {
     let mut until = until;
     for alert in store.alerts().values() {
-        until = sooner(at, alert.ends_at, until);
+        until = sooner(at, alert.get().ends_at, until);
     }
     until
 }

@@ -9,7 +9,7 @@ ghost use Rattle.amr_engine.specs.Weight.{copies, reload_entries};
 
 use crate::state::{Store, insert_into_groups, views};
 use amr_config::Config;
-use amr_labels::Labels;
+use amr_labels::{Labels, Shared};
 use amr_rules::Alert;
 use std::alloc::AllocError;
 
@@ -28,7 +28,7 @@ pub(crate) fn reload(store: &mut Store, config: Config) -> Result<(), AllocError
 }
 
 /// Inserts alerts into the groups of their chosen routes, in order.
-fn insert_all(store: &mut Store, alerts: &[(Labels, Alert)]) -> Result<(), AllocError>
+fn insert_all(store: &mut Store, alerts: &[(Labels, Shared<Alert>)]) -> Result<(), AllocError>
     ensures ok { OnOk result (store.new.state
         ≡ fold insert_into_groups store.old.state alerts.now) }
     ensures kept { before_open_record store.new ≡ before_open_record store.old }

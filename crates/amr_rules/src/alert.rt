@@ -1,12 +1,12 @@
 //! Alerts: filling in the times that a post leaves out, and merging a posted alert with the stored
 //! one of the same labels. The engine calls these when it makes a post. Nothing here reads or
 //! changes the state.
-ghost use Rattle.std.specs.Prelude.{◌≡◌, ◌+◌, ◌<◌, IfOk, Some, min, max, unwrap_or};
-ghost use Rattle.std.specs.Option.{option_or};
+ghost use Rattle.std.specs.Prelude.{◌≡◌, ◌+◌, ◌<◌, IfOk, min, max, unwrap_or};
+ghost use Rattle.std.specs.Option.{option_copied, option_or};
 ghost use Rattle.amr_time.specs.Time.{before_year_10000};
 
 use amr_events::posts::PostedAlert;
-use amr_labels::{Exact, Labels, TextMap};
+use amr_labels::{Labels, Shared, TextMap};
 use amr_time::{Moment, Span};
 use std::alloc::AllocError;
 
@@ -21,24 +21,6 @@ pub struct Alert {
     pub annotations: TextMap,
     /// The moment of the last post with these labels. The removal of the alert counts from it.
     pub last_post: Moment,
-}
-
-impl Clone for Alert {
-    ghost is_clone = { λ a b. b ≡ a };
-
-    fn clone(&self) -> Result<Alert, AllocError> {
-        Ok(Alert {
-            starts_at: self.starts_at,
-            ends_at: self.ends_at,
-            timed_out: self.timed_out,
-            annotations: self.annotations.clone()?,
-            last_post: self.last_post,
-        })
-    }
-}
-
-impl Exact for Alert {
-    ghost exact = { λ x y same. same };
 }
 
 ghost use Rattle.amr_rules.specs.Alerts.{completed_alert, alert_to_store, is_resolved_at, with_times, overlaps, old_end_counts, merged_alert};
@@ -130,13 +112,17 @@ fn later(a: Moment, b: Moment) -> Moment
     if a < b { b } else { a }
 }
 
-/// Merges a new alert with the stored one of the same labels. If they overlap, the result has the
-/// earlier start, and the later end if the stored end counts; otherwise the new alert replaces the
-/// old. Annotations are always those of the new alert.
+/// Merges a new alert with the stored one of the same labels, if there is one. If they overlap, the
+/// result has the earlier start, and the later end if the stored end counts; otherwise the new alert
+/// replaces the old. Annotations are always those of the new alert.
 #[tactic(auto, unfolding(crate::specs::Alerts::alert_to_store))]
-pub fn merge(now: Moment, stored: &Alert, new: Alert) -> Alert
-    ensures { result ≡ alert_to_store now (Some stored.now) new }
+pub fn merge(now: Moment, stored: Option<&Shared<Alert>>, new: Alert) -> Alert
+    ensures { result ≡ alert_to_store now (option_copied stored.entry) new }
 {
+    let Some(stored) = stored else {
+        return new;
+    };
+    let stored = stored.get();
     let mut new = new;
     if overlaps(stored, &new) {
         if old_end_counts(now, stored, &new) {

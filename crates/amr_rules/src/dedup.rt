@@ -8,7 +8,7 @@ ghost use Rattle.amr_labels.specs.Map.{empty};
 ghost use Rattle.amr_labels.specs.Set as set;
 
 use crate::alert::Alert;
-use amr_labels::{Exact, LabelMap, Labels};
+use amr_labels::{LabelMap, Labels, Shared};
 use amr_time::{Moment, Span};
 use std::alloc::{AllocError, Global};
 
@@ -24,22 +24,6 @@ pub struct LogEntry {
     pub resolved: LabelMap<()>,
 }
 
-impl Clone for LogEntry {
-    ghost is_clone = { λ a b. b ≡ a };
-
-    fn clone(&self) -> Result<LogEntry, AllocError> {
-        Ok(LogEntry {
-            time: self.time,
-            firing: self.firing.clone()?,
-            resolved: self.resolved.clone()?,
-        })
-    }
-}
-
-impl Exact for LogEntry {
-    ghost exact = { λ x y same. same };
-}
-
 ghost use Rattle.amr_rules.specs.Dedup.{differs, needs_update};
 
 /// Returns whether the log is due for a new entry, which comes with a notification unless there is
@@ -49,7 +33,7 @@ ghost use Rattle.amr_rules.specs.Dedup.{differs, needs_update};
 /// more the answer doesn't depend on `send_resolved`, so that the entry is cleared.
 #[tactic(auto, unfolding(crate::specs::Dedup::needs_update))]
 pub fn needs_update(
-    entry: Option<&LogEntry>,
+    entry: Option<&Shared<LogEntry>>,
     firing: &LabelMap<()>,
     resolved: &LabelMap<()>,
     send_resolved: bool,
@@ -61,7 +45,14 @@ pub fn needs_update(
 {
     match entry {
         None => !firing.is_empty(),
-        Some(entry) => differs(entry, firing, resolved, send_resolved, now, repeat_interval),
+        Some(entry) => differs(
+            entry.get(),
+            firing,
+            resolved,
+            send_resolved,
+            now,
+            repeat_interval,
+        ),
     }
 }
 
@@ -90,7 +81,7 @@ fn differs(
 /// resolved. It answers as `needs_update` does for the set of their labels, which it doesn't make.
 pub fn is_due_while_firing(
     entry: &LogEntry,
-    firing: &[(Labels, Alert)],
+    firing: &[(Labels, Shared<Alert>)],
     now: Moment,
     repeat_interval: Span,
 ) -> bool
@@ -106,7 +97,7 @@ pub fn is_due_while_firing(
 
 /// Returns whether the labels of each of these alerts are in a set. Alerts in the order of a set
 /// that has their labels alone take one comparison each.
-fn has_each(fired: &LabelMap<()>, alerts: &[(Labels, Alert)]) -> bool
+fn has_each(fired: &LabelMap<()>, alerts: &[(Labels, Shared<Alert>)]) -> bool
     ensures { result ≡ list_all (set.contains fired.now) (map (λ alert. alert.0) alerts.now) }
 {
     let mut items = fired.iter();
@@ -151,7 +142,10 @@ pub fn is_subset(a: &LabelMap<()>, b: &LabelMap<()>) -> bool
 }
 
 /// Returns the label sets of alerts as a set.
-pub fn labels_of(alloc: Global, alerts: &[(Labels, Alert)]) -> Result<LabelMap<()>, AllocError>
+pub fn labels_of(
+    alloc: Global,
+    alerts: &[(Labels, Shared<Alert>)],
+) -> Result<LabelMap<()>, AllocError>
     ensures { IfOk result (λ made. made ≡ set.from_list (map (λ alert. alert.0) alerts.now)) }
 {
     let mut made = LabelMap::new(alloc);

@@ -12,7 +12,7 @@ use crate::indexes::cached_periods::{CachedPeriods, is_caught_up};
 use crate::indexes::silence_change::SilenceChange;
 use amr_events::posts::SilenceId;
 use amr_labels::matcher::{MatchCache, value_bits};
-use amr_labels::{Labels, Listing};
+use amr_labels::{Labels, Listing, Shared};
 use amr_rules::{
     Alert, Silence, SilencePeriod, SilenceRow, periods_at, silence_periods, silence_rows,
     silenced_by, silenced_in, unexpired,
@@ -139,7 +139,7 @@ impl SilenceTable {
         at: Moment,
         number: usize,
         labels: &Labels,
-        alerts: &Keyed<Labels, Alert>,
+        alerts: &Keyed<Labels, Shared<Alert>>,
     )
         ensures { self.new ≡ self.old }
     {
@@ -167,7 +167,7 @@ impl SilenceTable {
         at: Moment,
         number: usize,
         labels: &Labels,
-        alerts: &Keyed<Labels, Alert>,
+        alerts: &Keyed<Labels, Shared<Alert>>,
     ) -> Result<(), AllocError>
         ensures { self.new ≡ self.old }
     {
@@ -185,7 +185,11 @@ impl SilenceTable {
 
     /// Works out the same for the label sets that got their numbers since it last did, up to as many
     /// as are asked for at once, unless few of them are missing.
-    fn ask_ahead(&mut self, at: Moment, alerts: &Keyed<Labels, Alert>) -> Result<(), AllocError>
+    fn ask_ahead(
+        &mut self,
+        at: Moment,
+        alerts: &Keyed<Labels, Shared<Alert>>,
+    ) -> Result<(), AllocError>
         ensures { self.new ≡ self.old }
     {
         let first = self.asked_ahead;
@@ -436,7 +440,7 @@ fn forget(
 /// Returns the label sets with numbers from `first` up to `end`.
 fn label_sets_from(
     alloc: Global,
-    alerts: &Keyed<Labels, Alert>,
+    alerts: &Keyed<Labels, Shared<Alert>>,
     first: usize,
     end: usize,
 ) -> Result<Vec<Labels>, AllocError> {

@@ -20,7 +20,7 @@ use crate::indexes::RuleSources;
 use crate::state::due::alert_removal;
 use crate::state::pending::{Pending, TimerRef, count_with_next};
 use amr_config::stated::{InhibitRule, RuleMatch};
-use amr_labels::{LabelMap, Labels};
+use amr_labels::{LabelMap, Labels, Shared};
 use amr_rules::{Alert, AlertStore, is_agreeing};
 use amr_tables::{Earliest, Keyed, Values};
 use std::alloc::{AllocError, Global};
@@ -31,7 +31,7 @@ use std::marker::Model;
 /// by the number of its label set.
 #[derive(Drop)]
 pub struct AlertTable {
-    alerts: Keyed<Labels, Alert>,
+    alerts: Keyed<Labels, Shared<Alert>>,
     sources: RuleSources,
     /// When each alert is removed.
     removals: Earliest,
@@ -72,11 +72,11 @@ impl AlertTable {
     pub fn get(&self, labels: &Labels) -> Option<&Alert>
         ensures { option_copied result ≡ map.get (map_of label_set_cmp self.now) labels.now }
     {
-        self.alerts.get(labels)
+        Some(self.alerts.get(labels)?.get())
     }
 
     /// Returns the stored alerts by label set, with the numbers of the label sets.
-    pub fn by_number(&self) -> &Keyed<Labels, Alert>
+    pub fn by_number(&self) -> &Keyed<Labels, Shared<Alert>>
         ensures { result.now ≡ self.now }
     {
         &self.alerts
@@ -84,7 +84,7 @@ impl AlertTable {
 
     /// Returns the alerts with their labels, in the order of the labels. It sorts them, so it is for
     /// listings.
-    pub fn sorted(&self, alloc: Global) -> Result<Vec<(&Labels, &Alert)>, AllocError>
+    pub fn sorted(&self, alloc: Global) -> Result<Vec<(&Labels, &Shared<Alert>)>, AllocError>
         ensures { IfOk result (λ found. pairs_of found.items
             ≡ map.entries (map_of label_set_cmp self.now)) }
     {
@@ -92,7 +92,7 @@ impl AlertTable {
     }
 
     /// Returns the alerts, in the order in which their labels came. It takes no memory.
-    pub fn values(&self) -> Values<'_, Alert>
+    pub fn values(&self) -> Values<'_, Shared<Alert>>
         ensures { result ≡ values_of self.now.cells }
     {
         self.alerts.values()
@@ -130,7 +130,7 @@ impl AlertTable {
 
     /// Swaps the alert of the label set with a number, or `None` if it has none, with another, and
     /// marks its place as entered. Returns whether the place was marked before. It takes no memory.
-    pub fn swap_at(&mut self, number: usize, alert: &mut Option<Alert>) -> bool
+    pub fn swap_at(&mut self, number: usize, alert: &mut Option<Shared<Alert>>) -> bool
         requires { IsNumber label_set_cmp self.old number }
         ensures former { IsValueOf label_set_cmp self.old number alert.new }
         ensures was_entered { IsMarkOf label_set_cmp self.old number result }
@@ -202,7 +202,7 @@ impl AlertStore for AlertTable {
 /// the labels in `equal`. It looks at each of them.
 fn sources_among<'a>(
     alloc: Global,
-    alerts: &'a Keyed<Labels, Alert>,
+    alerts: &'a Keyed<Labels, Shared<Alert>>,
     rule: &InhibitRule,
     target: &Labels,
 ) -> Result<Vec<(&'a Labels, &'a Alert)>, AllocError>
@@ -213,7 +213,7 @@ fn sources_among<'a>(
     let mut found = Vec::new(alloc);
     for &(labels, alert) in stored.as_slice() {
         if is_agreeing(alloc, rule, target, labels)? {
-            found.push((labels, alert))?;
+            found.push((labels, alert.get()))?;
         }
     }
     Ok(found)
@@ -222,7 +222,7 @@ fn sources_among<'a>(
 /// Lists those of the label sets under which alerts are stored, with the alerts.
 fn stored_of<'a>(
     alloc: Global,
-    alerts: &'a Keyed<Labels, Alert>,
+    alerts: &'a Keyed<Labels, Shared<Alert>>,
     listed: &'a LabelMap<()>,
 ) -> Result<Vec<(&'a Labels, &'a Alert)>, AllocError>
     ensures { IfOk result (λ found. pairs_of found.items
@@ -231,7 +231,7 @@ fn stored_of<'a>(
     let mut found = Vec::new(alloc);
     for (labels, _) in listed.iter() {
         if let Some(alert) = alerts.get(labels) {
-            found.push((labels, alert))?;
+            found.push((labels, alert.get()))?;
         }
     }
     Ok(found)
@@ -252,7 +252,10 @@ fn cache_sides(sources: &mut RuleSources, rules: &[InhibitRule], matched: &[Rule
 
 /// Returns the first removal of an alert, given the moments of all.
 #[inline(always)]
-fn first_alert<'a>(alerts: &'a Keyed<Labels, Alert>, removals: &Earliest) -> Option<Pending<'a>>
+fn first_alert<'a>(
+    alerts: &'a Keyed<Labels, Shared<Alert>>,
+    removals: &Earliest,
+) -> Option<Pending<'a>>
     requires numbered { AreNumbered label_set_cmp alerts.now }
     requires scheduled { IsScheduled label_set_cmp alert_moment alerts.now removals.now }
     ensures { (timers : map.Map route_labels_cmp GroupTimer) → IsFirstOfKind AlertRemoval
@@ -268,11 +271,11 @@ fn first_alert<'a>(alerts: &'a Keyed<Labels, Alert>, removals: &Earliest) -> Opt
 }
 
 /// Returns when an alert is removed, in nanoseconds since 1970, or `None` without an alert.
-fn alert_moment(alert: &Option<Alert>) -> Option<u128>
+fn alert_moment(alert: &Option<Shared<Alert>>) -> Option<u128>
     ensures { result ≡ alert_moment alert.now }
 {
     match alert {
         None => None,
-        Some(alert) => Some(alert_removal(alert)),
+        Some(alert) => Some(alert_removal(alert.get())),
     }
 }

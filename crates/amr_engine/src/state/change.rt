@@ -6,14 +6,15 @@ use crate::state::membership::Membership;
 use crate::state::notification::{GroupTimer, LogKey};
 use amr_config::{Config, RouteLabels, Router};
 use amr_events::posts::SilenceId;
-use amr_labels::Labels;
+use amr_labels::{Labels, Shared};
 use amr_rules::{Alert, LogEntry, Silence};
 use amr_time::Moment;
 use std::alloc::{AllocError, Global};
 use std::marker::Model;
 use std::mem;
 
-/// A place of the state and a value for it; `None` leaves the place empty.
+/// A place of the state and a value for it; `None` leaves the place empty. All entries of a record are
+/// as large as the largest, so what is large is in memory of its own.
 #[derive(Drop)]
 pub enum Change {
     /// The moment of the clock.
@@ -21,21 +22,20 @@ pub enum Change {
     /// The configuration in force, with what is cached under it.
     OfConfig(BoxedRouter),
     /// The stored alert with these labels.
-    OfAlert(Labels, Option<Alert>),
+    OfAlert(Labels, Option<Shared<Alert>>),
     /// The silence with this id.
     OfSilence(SilenceId, Option<Silence>),
     /// The member of a group with these labels.
-    OfMember(Membership, Option<Alert>),
+    OfMember(Membership, Option<Shared<Alert>>),
     /// The timer of a group.
     OfTimer(RouteLabels, Option<GroupTimer>),
     /// The entry of the notification log under this key.
-    OfLog(LogKey, Option<LogEntry>),
+    OfLog(LogKey, Option<Shared<LogEntry>>),
     /// The number of notifications, which drops the later ones.
     OfNotes(usize),
 }
 
-/// A configuration in memory of its own, with what it caches. A `Router` is far larger than what
-/// other entries have, and all entries of a record are as large as the largest.
+/// A configuration in memory of its own, with what it caches.
 #[derive(Drop)]
 pub struct BoxedRouter {
     router: Box<Router>,

@@ -14,7 +14,7 @@ use crate::state::membership::Membership;
 use crate::state::notification::GroupTimer;
 use crate::state::store::Store;
 use amr_config::RouteLabels;
-use amr_labels::Labels;
+use amr_labels::{Labels, Shared};
 use amr_rules::Alert;
 use amr_time::{Moment, Span};
 use std::alloc::AllocError;
@@ -23,7 +23,7 @@ use std::alloc::AllocError;
 pub fn insert_into_groups(
     store: &mut Store,
     labels: &Labels,
-    alert: &Alert,
+    alert: &Shared<Alert>,
 ) -> Result<(), AllocError>
     ensures ok { OnOk result (store.new.state
         ≡ insert_into_groups store.old.state (labels.now, alert.now)) }
@@ -41,7 +41,7 @@ pub(crate) fn insert_into_each(
     store: &mut Store,
     groups: &[RouteLabels],
     labels: &Labels,
-    alert: &Alert,
+    alert: &Shared<Alert>,
 ) -> Result<(), AllocError>
     requires { groups.now ≡ groups_of store.old.state.config labels.now }
     ensures ok { OnOk result (store.new.state
@@ -95,7 +95,7 @@ fn insert_into_group(
     store: &mut Store,
     group: &RouteLabels,
     labels: &Labels,
-    alert: &Alert,
+    alert: &Shared<Alert>,
 ) -> Result<(), AllocError>
     requires { group.now ≡ group_at store.old.state.config labels.now group.now.route }
     ensures ok { OnOk result (store.new.state
@@ -105,7 +105,7 @@ fn insert_into_group(
 {
     let wait = store.config().group_wait(group.route);
     let before = store.timers().get(group).copied();
-    let after = timer_with(store.moment(), wait, alert, before);
+    let after = timer_with(store.moment(), wait, alert.get(), before);
     let member = Membership::new(group, labels)?;
     store.change(Change::OfMember(member, Some(alert.clone()?)))?;
     change_timer(store, group, before, after)

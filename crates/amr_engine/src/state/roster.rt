@@ -38,7 +38,7 @@ use std::marker::Model;
 pub(crate) struct Roster {
     alloc: Global,
     config: Router,
-    placements: Keyed<RouteLabels, Alert>,
+    placements: Keyed<RouteLabels, Shared<Alert>>,
     timers: Keyed<RouteLabels, GroupTimer>,
     /// The group of each member, by their numbers.
     members: Grouped,
@@ -115,7 +115,7 @@ impl Roster {
     }
 
     /// Returns the members of all groups, by route and labels.
-    pub(crate) fn placements(&self) -> &Keyed<RouteLabels, Alert>
+    pub(crate) fn placements(&self) -> &Keyed<RouteLabels, Shared<Alert>>
         ensures { result.now ≡ self.now.placements }
     {
         &self.placements
@@ -268,7 +268,7 @@ impl Roster {
         &mut self,
         number: usize,
         member: &Membership,
-        alert: &mut Option<Alert>,
+        alert: &mut Option<Shared<Alert>>,
     ) -> bool
         requires place { number_of route_labels_cmp self.old.placements
             (member_on_route member.now) ≡ Some number }
@@ -394,7 +394,7 @@ impl Roster {
 fn group_if_member(
     timers: &Keyed<RouteLabels, GroupTimer>,
     group: &RouteLabels,
-    alert: &Option<Alert>,
+    alert: &Option<Shared<Alert>>,
 ) -> Option<usize>
     ensures { result
         ≡ option_and_then (λ _. number_of route_labels_cmp timers.now group.now) alert.now }
@@ -420,7 +420,7 @@ fn labels_of(alloc: Global, members: &[(&Labels, usize)]) -> Result<Listing<Labe
 /// places.
 fn with_alerts(
     alloc: Global,
-    placements: &Keyed<RouteLabels, Alert>,
+    placements: &Keyed<RouteLabels, Shared<Alert>>,
     route: usize,
     members: &[(&Labels, usize)],
 ) -> Result<Vec<Member>, AllocError>
@@ -440,7 +440,7 @@ fn with_alerts(
 /// number of its place, and compares no keys.
 fn push_member(
     found: &mut Vec<Member>,
-    placements: &Keyed<RouteLabels, Alert>,
+    placements: &Keyed<RouteLabels, Shared<Alert>>,
     route: usize,
     labels: &Labels,
     number: usize,

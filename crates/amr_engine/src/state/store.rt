@@ -5,7 +5,6 @@
 //! what was there before.
 ghost use Rattle.std.specs.Prelude.{◌≡◌, ◌↔◌, ◌≤◌, ◌<◌, ◌+◌, ◌++◌, ◌∷◌, ◌==◌, [], ℕ, false, Option, Some, None, length, OnOk, IfOk, IfSome};
 ghost use Rattle.std.specs.Prelude.{if◌then◌else◌, is_some, option_map, slice_get};
-ghost use Rattle.std.specs.Option.{option_copied};
 ghost use Rattle.std.specs.Ordering.{nat_cmp};
 ghost use Rattle.amr_labels.specs.Labels.{label_set_cmp};
 ghost use Rattle.amr_config.specs.Groups.{groups_of};
@@ -270,7 +269,7 @@ impl Store {
     }
 
     /// Returns the members of all groups, by route and labels.
-    pub(crate) fn placements(&self) -> &Keyed<RouteLabels, Alert>
+    pub(crate) fn placements(&self) -> &Keyed<RouteLabels, Shared<Alert>>
         ensures { map_of route_labels_cmp result.now ≡ self.now.state.placements }
     {
         self.tables.roster.placements()
@@ -304,7 +303,7 @@ impl Store {
     }
 
     /// Returns the notification log.
-    pub fn log(&self) -> &Keyed<LogKey, LogEntry>
+    pub fn log(&self) -> &Keyed<LogKey, Shared<LogEntry>>
         ensures { map_of log_key_cmp result.now ≡ self.now.state.log }
     {
         &self.tables.log
@@ -379,7 +378,11 @@ impl Store {
 
     /// Stores an alert, merged with the stored one of the same labels if there is one. Returns the
     /// number of the labels and what it stored. It looks for the labels once.
-    pub fn put_alert(&mut self, labels: &Labels, alert: Alert) -> Result<(usize, Alert), AllocError>
+    pub fn put_alert(
+        &mut self,
+        labels: &Labels,
+        alert: Alert,
+    ) -> Result<(usize, Shared<Alert>), AllocError>
         ensures stored { IfOk result (λ put. put.1 ≡ alert_to_store self.old.state.moment
             (map.get self.old.state.alerts labels.now) alert) }
         ensures ok { IfOk result (λ put. self.new.state ≡ record self.old.state
@@ -389,7 +392,7 @@ impl Store {
     {
         let alerts = self.tables.alerts.by_number();
         let (number, former) = alerts.look_up_number(labels);
-        let stored = merged(self.tables.moment, former, alert);
+        let stored = Shared::new(self.alloc, merge(self.tables.moment, former, alert))?;
         let change = Change::OfAlert(labels.clone()?, Some(stored.clone()?));
         let number = make_room(&mut self.tables, &mut self.journal, number, &change)?;
         enter(&mut self.tables, &mut self.journal, number, change);
@@ -449,7 +452,7 @@ impl Store {
         if !is_due {
             return Ok(false);
         }
-        let change = Change::OfLog(key.clone()?, Some(entry));
+        let change = Change::OfLog(key.clone()?, Some(Shared::new(self.alloc, entry)?));
         let number = make_room(&mut self.tables, &mut self.journal, number, &change)?;
         enter(&mut self.tables, &mut self.journal, number, change);
         Ok(true)
@@ -555,17 +558,6 @@ impl Store {
         self.journal.push(change);
         self.tables.clear_entered();
         Ok(())
-    }
-}
-
-/// Returns what is stored of a new alert: itself, or what it makes with the stored one.
-#[tactic(auto, unfolding(amr_rules::specs::Alerts::alert_to_store))]
-fn merged(now: Moment, stored: Option<&Alert>, alert: Alert) -> Alert
-    ensures { result ≡ alert_to_store now (option_copied stored.entry) alert }
-{
-    match stored {
-        Some(stored) => merge(now, stored, alert),
-        None => alert,
     }
 }
 

@@ -35,7 +35,7 @@ pub(crate) struct Tables {
     pub(crate) alerts: AlertTable,
     pub(crate) silences: SilenceTable,
     pub(crate) roster: Roster,
-    pub(crate) log: Keyed<LogKey, LogEntry>,
+    pub(crate) log: Keyed<LogKey, Shared<LogEntry>>,
     pub(crate) notes: Vec<Shared<Notification>>,
     pub(crate) is_moment_entered: bool,
     pub(crate) are_notes_entered: bool,
@@ -152,7 +152,7 @@ impl Tables {
 
 /// Returns the number of the place of a key of the notification log. Makes the place if there is
 /// none.
-fn place_log(log: &mut Keyed<LogKey, LogEntry>, key: &LogKey) -> Result<usize, AllocError>
+fn place_log(log: &mut Keyed<LogKey, Shared<LogEntry>>, key: &LogKey) -> Result<usize, AllocError>
     ensures number { IfOk result (λ number. number_of log_key_cmp log.new key.now ≡ Some number) }
     ensures shown { map_of log_key_cmp log.new ≡ map_of log_key_cmp log.old }
     ensures entered { SameEntered log_key_cmp log.old log.new }

@@ -8,7 +8,7 @@ ghost use Rattle.amr_engine.specs.State.State.{members};
 use crate::state::notification::GroupTimer;
 use crate::state::store::Store;
 use amr_config::RouteLabels;
-use amr_labels::{Labels, Listing};
+use amr_labels::{Labels, Listing, Shared};
 use amr_rules::Alert;
 use amr_time::Moment;
 use std::alloc::AllocError;
@@ -33,7 +33,7 @@ pub struct Group {
 ghost use Rattle.amr_engine.specs.State.Seen.{group_seen, groups_of};
 
 /// Returns the stored alerts, by labels.
-pub fn alerts(store: &Store) -> Result<Vec<(Labels, Alert)>, AllocError>
+pub fn alerts(store: &Store) -> Result<Vec<(Labels, Shared<Alert>)>, AllocError>
     ensures { IfOk result (λ found. found.items ≡ entries store.now.state.alerts) }
 {
     let mut found = Vec::new(store.alloc());

@@ -8,18 +8,19 @@ ghost use Rattle.amreplay.specs.Lines.Printed.{is_equal as means_equal, is_regex
 use crate::lines::json_text::{ToJson, push, push_array};
 use amr_engine::state::{Group, LogKey};
 use amr_events::posts::SilenceId;
-use amr_labels::Labels;
 use amr_labels::matcher::{Matcher, Matchers, Operator};
+use amr_labels::{Labels, Shared};
 use amr_rules::{Alert, LogEntry, Silence};
 use std::alloc::AllocError;
 
-impl ToJson for (&Labels, &Alert) {
+impl ToJson for (&Labels, &Shared<Alert>) {
     ghost use Rattle.amreplay.specs.Lines.Printed.{alert_data};
 
     ghost json = { λ row. alert_data (row.0.now, row.1.now) };
 
     fn push_json(&self, out: &mut String) -> Result<(), AllocError> {
         let (labels, alert) = *self;
+        let alert = alert.get();
         push(out, "{\"annotations\":", &alert.annotations)?;
         push(out, ",\"endsAt\":", &alert.ends_at)?;
         push(out, ",\"labels\":", labels)?;
@@ -61,13 +62,14 @@ impl ToJson for Group {
     }
 }
 
-impl ToJson for (&LogKey, &LogEntry) {
+impl ToJson for (&LogKey, &Shared<LogEntry>) {
     ghost use Rattle.amreplay.specs.Lines.Printed.{log_data};
 
     ghost json = { λ row. log_data (row.0.now, row.1.now) };
 
     fn push_json(&self, out: &mut String) -> Result<(), AllocError> {
         let (key, entry) = *self;
+        let entry = entry.get();
         push(out, "{\"at\":", &entry.time)?;
         push(out, ",\"firing\":", &entry.firing)?;
         push(out, ",\"groupLabels\":", &key.group)?;

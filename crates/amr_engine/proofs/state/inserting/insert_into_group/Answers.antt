@@ -18,7 +18,7 @@ returns-clause-ok c =
     let wait : c.group_wait-wait.result ≡ group_wait_of s.config route = c.group_wait-wait.ensures ∙ ap (λ config. group_wait_of config route) c.config.ensures in
     let found : c.copied-before.result ≡ get s.timers group = c.copied-before.ensures ∙ c.get.ensures ∙ ap (λ m. get m group) c.timers.ensures in
     let reset : c.timer_with-after.result ≡ timer_with s.moment (group_wait_of s.config route) c.args.alert.now (get s.timers group) =
-    c.timer_with-after.ensures ∙ (λ i. timer_with (c.moment.ensures.value i) (wait i) c.args.alert.now (found i)) in
+    c.timer_with-after.ensures ∙ (λ i. timer_with (c.moment.ensures.value i) (wait i) (c.get-2.ensures i) (found i)) in
     on_ok c.change_timer.result _ _ (λ set. set
     ∙ placed s c.change.new.self.state c.args.labels.now c.args.alert.now c.in_ok-clone.field-0 route group c.in_ok-member.member.member c.timer_with-after.result c.requires c.in_ok-member.ensures.member
     c.in_ok-clone.ensures.cases reset c.in_ok-change.ensures.ok) c.change_timer.ensures.ok

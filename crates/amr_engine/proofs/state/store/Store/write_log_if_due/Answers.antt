@@ -23,7 +23,7 @@ pub invariant_of-self-2 : goal.invariant_of-self-2
 invariant_of-self-2 c =
     let a = c.self.inside in
     let made = c.make_room in
-    let change : Change = OfLog c.in_ok-clone.field-0 (Some c.args.entry) in
+    let change : Change = OfLog c.in_ok-clone.field-0 (Some c.in_ok-new.field-0) in
     let mid : Inside = record a { tables = made.new.tables; journal = made.new.journal } in
     let b : Inside = record a { tables = c.enter.new.tables; journal = c.enter.new.journal } in
     let kept = kept_placed a made.new.tables made.new.journal c.self.invariant made.ensures.values made.ensures.places made.ensures.marks made.ensures.closed made.ensures.current in
@@ -33,7 +33,7 @@ pub returns-clause-kept : goal.returns-clause-kept
 returns-clause-kept c =
     let a = c.self.inside in
     let made = c.make_room in
-    let change : Change = OfLog c.in_ok-clone.field-0 (Some c.args.entry) in
+    let change : Change = OfLog c.in_ok-clone.field-0 (Some c.in_ok-new.field-0) in
     let mid : Inside = record a { tables = made.new.tables; journal = made.new.journal } in
     let b : Inside = record a { tables = c.enter.new.tables; journal = c.enter.new.journal } in
     let kept = kept_placed a made.new.tables made.new.journal c.self.invariant made.ensures.values made.ensures.places made.ensures.marks made.ensures.closed made.ensures.current in
