@@ -1,7 +1,7 @@
 -- Flushes of quiet groups can be made in any order, so those of one group can all be made first.
-use Rattle.std.specs.Prelude.{◌≡◌, ℕ, zero, suc, Bool, true, false, IsSomeAnd, List, [], ◌∷◌, ◌++◌, Option, Some, None, ◌≤◌, ◌<◌, ◌+◌, ◌-◌, ◌*◌, ◌/◌, map, option_map, cond, ◌⊎◌, ◌||◌, IsTrue, IfSome}
-use Rattle.std.specs.List.{All, filter_map, cons_option}
-use Rattle.std.specs.Option.{option_map_or}
+use Rattle.std.specs.Prelude.{◌≡◌, ℕ, zero, suc, Bool, true, false, IsSomeAnd, List, [], ◌∷◌, ◌++◌, Option, Some, None, ◌≤◌, ◌<◌, ◌+◌, ◌-◌, ◌*◌, ◌/◌, map, option_map, cond, ◌⊎◌, ◌||◌, IsTrue, IfSome, nat_lt}
+use Rattle.std.specs.List.{filter_map, cons_option}
+use Rattle.std.specs.Option.{option_and_then, option_map_or}
 use Rattle.std.specs.Ordering.{eq_by_cmp, is_eq}
 use Rattle.std.proofs.Common.{refl, sym, ap, ◌∙◌, subst, inl, inr, arith}
 use Rattle.std.proofs.lemmas.Cmp.{tied_itself}
@@ -23,6 +23,10 @@ use Rattle.amr_engine.specs.declared.state.due.Timer.{Timer}
 use Rattle.amr_engine.specs.declared.state.due.Timer.TheVariants as timers
 use Rattle.amr_engine.specs.State.Timed.{IsFirstOfKind}
 use Rattle.amr_tables.specs.Members.{has}
+use Rattle.amr_tables.specs.Places.{value_at}
+use Rattle.amr_tables.specs.Numbered.{Numbered, map_of, number_of, key_at, next_number, IsNumbering}
+use Rattle.amr_tables.proofs.Naming.{key_at_number}
+use Rattle.amr_tables.proofs.Numbering.{get-shown}
 use Rattle.amr_engine.specs.State.Dues.{Due, due_at, kind_of, due_cmp, due_cmp_total, due_cmp-IsAntisymmetric, dues_of, group_removal_at, alert_removal_of, group_removal_of, flush_of, next_due}
 use Rattle.amr_engine.specs.Quiet.{with_timer_reset}
 use Rattle.amr_engine.specs.Moves.{move, advance, counted_run, plus_moves}
@@ -37,6 +41,7 @@ use Rattle.amr_engine.proofs.CachedQuiet.{stays_true}
 use Rattle.amr_engine.proofs.QuietLaws.{quiet_flush, stays_quiet}
 use Rattle.amr_engine.proofs.QuietStays.{apart, equal}
 use Rattle.std.proofs.lemmas.Bool.{true≢false}
+use Rattle.std.proofs.lemmas.Bool.Decides.{nat_tests}
 use Rattle.amr_engine.proofs.StateLemmas.Least.{not_later, or_right}
 
 abbrev Timers : Type 0
@@ -380,23 +385,43 @@ over_at_once at s moment group l calm due over =
 
 -- ---- what is found of all groups
 
--- the group is quiet if it is due
-abbrev pub IsQuietIfDue : Moment → State → RouteLabels × GroupTimer → Type 0
-IsQuietIfDue at s entry = entry.1.next_flush ≤ at → IsQuietBeyond at s entry.0 entry.1
+-- the groups with numbers below this one are quiet, if they are due
+abbrev pub AreQuiet : Moment → State → Numbered RouteLabels GroupTimer → ℕ → Type 0
+AreQuiet at s timers next = (n : ℕ) (group : RouteLabels) (timer : GroupTimer) → n < next → key_at timers n ≡ Some group → value_at timers.cells n ≡ Some timer
+    → timer.next_flush ≤ at → IsQuietBeyond at s group timer
 
-abbrev pub AreQuiet : Moment → State → List (RouteLabels × GroupTimer) → Type 0
-AreQuiet at s = All (IsQuietIfDue at s)
+-- a group with a timer has a number
+numbered : (t : Numbered RouteLabels GroupTimer) → IsNumbering route_labels_cmp t → (group : RouteLabels) (timer : GroupTimer) → get (map_of route_labels_cmp t) group ≡ Some timer
+    → (n : ℕ) × (n < next_number t) × (key_at t n ≡ Some group) × (value_at t.cells n ≡ Some timer)
+numbered t is group timer got =
+    elim (number_of route_labels_cmp t group) as (λ o. number_of route_labels_cmp t group ≡ o → option_and_then (value_at t.cells) o ≡ Some timer
+    → (n : ℕ) × (n < next_number t) × (key_at t n ≡ Some group) × (value_at t.cells n ≡ Some timer)) [
+      | None ↦ λ e h. absurd cc
+      | Some n ↦ λ e h. (n, is.within group n e, key_at_number route_labels_cmp_total route_labels_cmp-IsAntisymmetric t is group n e, h)
+    ] refl (sym (get-shown route_labels_cmp route_labels_cmp_total t group is) ∙ got)
 
-quiet_in : (at : Moment) (s : State) (es : List (RouteLabels × GroupTimer)) (entry : RouteLabels × GroupTimer) → AreQuiet at s es → In entry es → entry.1.next_flush ≤ at → IsQuietBeyond at s entry.0 entry.1
-quiet_in at s [] entry quiet among = absurd among
-quiet_in at s (e ∷ es) entry quiet (inl same) = λ soon.
-    subst (λ (x : RouteLabels × GroupTimer). IsQuietBeyond at s x.0 x.1) (sym same) (quiet 0 e (omega arith) (subst (λ (x : RouteLabels × GroupTimer). x.1.next_flush ≤ at) same soon))
-quiet_in at s (e ∷ es) entry quiet (inr among) = quiet_in at s es entry (λ n d less. quiet (suc n) d (omega (arith, less))) among
+same_value : {A : Type 0} (x y : A) → Some x ≡ Some y → x ≡ y
+same_value x y e = ap (λ o. option_map_or (λ z. z) o x) e
 
-pub calm_if_quiet : (at : Moment) (s : State) → AreNoneRemoved at s.alerts s.timers → AreQuiet at s (entries s.timers) → IsCalm at s
-calm_if_quiet at s removed quiet = record {
+-- so is the group with the next number
+pub one_more : (at : Moment) (s : State) (timers : Numbered RouteLabels GroupTimer) (next : ℕ) → AreQuiet at s timers next → (group : RouteLabels) (timer : GroupTimer)
+    → Some group ≡ key_at timers next → Some timer ≡ value_at timers.cells next → (timer.next_flush ≤ at → IsQuietBeyond at s group timer) → AreQuiet at s timers (next + 1)
+one_more at s timers next quiet group timer named timed here = λ n other its less other_named its_timed due.
+    elim (nat_lt n next) as (λ b. nat_lt n next ≡ b → IsQuietBeyond at s other its) [
+      | true ↦ λ e. let before : n < next = grind (arith, nat_tests) in quiet n other its before other_named its_timed due
+      | false ↦ λ e.
+          let same : n ≡ next = grind (arith, nat_tests) in
+          let group_is : group ≡ other = same_value group other (named ∙ ap (key_at timers) (sym same) ∙ other_named) in
+          let timer_is : timer ≡ its = same_value timer its (timed ∙ ap (value_at timers.cells) (sym same) ∙ its_timed) in
+          subst (λ (x : RouteLabels × GroupTimer). IsQuietBeyond at s x.0 x.1) (λ i. (group_is i, timer_is i)) (here (subst (λ (t : GroupTimer). t.next_flush ≤ at) (sym timer_is) due))
+    ] refl
+
+pub calm_if_quiet : (at : Moment) (s : State) (timers : Numbered RouteLabels GroupTimer) → IsNumbering route_labels_cmp timers → map_of route_labels_cmp timers ≡ s.timers
+    → AreNoneRemoved at s.alerts s.timers → AreQuiet at s timers (next_number timers) → IsCalm at s
+calm_if_quiet at s timers is shown removed quiet = record {
   removed = removed;
-  flushed = λ group timer timed soon. quiet_in at s (entries s.timers) (group, timer) quiet (timer_among s.timers group timer timed) soon;
+  flushed = λ group timer timed soon. let its = numbered timers is group timer (ap (λ (m : Timers). get m group) shown ∙ timed) in
+      quiet its.0 group timer its.1 its.2 its.3 soon;
 }
 
 -- ---- each move has a weight

@@ -1,5 +1,5 @@
 -- The moves of an event, counted one after another.
-use Rattle.std.proofs.Common.{◌≡◌, true, false, ℕ, suc, zero, ◌+◌, ◌-◌, ◌<◌, ◌≤◌, List, [], Option, None, Some, refl, sym, ap, ◌∙◌, arith}
+use Rattle.std.proofs.Common.{◌≡◌, false, ℕ, suc, zero, ◌+◌, ◌-◌, ◌<◌, ◌≤◌, List, [], Option, None, Some, refl, sym, ap, ◌∙◌, arith}
 use Rattle.std.specs.Option.{option_map, option_map_or, is_some}
 use Rattle.std.proofs.lemmas.Bool.{true≢false}
 use Rattle.amr_time.specs.Time.{Moment}
@@ -58,10 +58,6 @@ is_over limit made at s before d so_far all some =
 pub no_value : {A : Type 0} (o r : Option A) → o ≡ r → false ≡ is_some o → None ≡ r
 no_value None r e h = e
 no_value (Some x) r e h = absurd (true≢false (sym h))
-
-pub some_value : {A : Type 0} (o r : Option A) → o ≡ r → true ≡ is_some o → (d : A) × (Some d ≡ r)
-some_value None r e h = absurd (true≢false h)
-some_value (Some x) r e h = (x, e)
 
 pub limit_is : move_limit ≡ 1_000_000
 unfolding move_limit

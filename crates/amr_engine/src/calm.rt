@@ -34,7 +34,7 @@ pub(crate) fn make_at_once(
         ≤ length store.old.current + 2 * first_weight left at store.old.state) }
     ensures cache { OnOk result (IsTrueOf quiet_groups.now store.new.state) }
 {
-    match calm_until(store, quiet_groups, at)? {
+    match calm_until(store, quiet_groups, at) {
         None => Ok(Some(0)),
         Some(until) => {
             let made = make_calm_moves(store, until, left)?;
@@ -45,42 +45,43 @@ pub(crate) fn make_at_once(
 
 /// Returns the last moment up to which nothing is due but flushes of groups that are cached as quiet
 /// until after it, if such a moment is found. It isn't later than `at`.
-fn calm_until(
-    store: &Store,
-    quiet_groups: &QuietGroups,
-    at: Moment,
-) -> Result<Option<Moment>, AllocError>
+fn calm_until(store: &Store, quiet_groups: &QuietGroups, at: Moment) -> Option<Moment>
     requires late { at ≤ latest_read }
     requires cache { IsTrueOf quiet_groups.now store.now.state }
-    ensures { IfOk result (λ until. IfSome until (λ until. (until ≤ at)
-        × IsCalm until store.now.state)) }
+    ensures { IfSome result (λ until. (until ≤ at) × IsCalm until store.now.state) }
 {
-    let end = calm_end(store, quiet_groups, at)?;
+    let end = calm_end(store, quiet_groups, at);
     if end == 0 {
-        return Ok(None);
+        return None;
     }
     let until = Moment::from_nanoseconds(end - 1);
     if store.is_removal_due(until) {
-        return Ok(None);
+        return None;
     }
-    Ok(Some(until))
+    Some(until)
 }
 
 /// Returns until when all groups that are flushed are cached as quiet, in nanoseconds since 1970. It
-/// looks no further than `at`.
-fn calm_end(store: &Store, quiet_groups: &QuietGroups, at: Moment) -> Result<u128, AllocError>
+/// looks no further than `at`. It takes no memory, so a look refuses no event.
+fn calm_end(store: &Store, quiet_groups: &QuietGroups, at: Moment) -> u128
     requires { IsTrueOf quiet_groups.now store.now.state }
-    ensures within { IfOk result (λ end. end ≤ at + 1) }
-    ensures calm { IfOk result (λ end. (last : ℕ) → last < end
+    ensures within { result ≤ at + 1 }
+    ensures calm { (last : ℕ) → last < result
         → AreNoneRemoved last store.now.state.alerts store.now.state.timers
-        → IsCalm last store.now.state) }
+        → IsCalm last store.now.state }
 {
     let mut end = at.nanoseconds() + 1;
-    let timers = store.timers().sorted(store.alloc())?;
-    for &(group, timer) in timers.as_slice() {
+    let timers = store.timers();
+    for number in 0..timers.next_number() {
+        let Some(group) = timers.key_at(number) else {
+            continue;
+        };
+        let Some(timer) = timers.at(number) else {
+            continue;
+        };
         end = end.min(calm_end_of(store, quiet_groups, group, timer));
     }
-    Ok(end)
+    end
 }
 
 /// Returns until when each flush of a group with this timer is known to be quiet, in nanoseconds

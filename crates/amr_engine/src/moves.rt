@@ -61,8 +61,8 @@ pub(crate) fn advance(
     Ok(Some(made))
 }
 
-/// When an event next looks at all groups, counted in moves. It does so after two moves for each
-/// group, and not after few, and later if it pays less.
+/// When an event next looks at all groups, counted in moves: first after two moves for each group,
+/// but at least `FEWEST_BEFORE_LOOK`, and each time that a look doesn't pay, after twice as many.
 #[derive(Drop)]
 struct Look {
     wait: usize,
