@@ -62,7 +62,7 @@ fn calm_until(store: &Store, quiet_groups: &QuietGroups, at: Moment) -> Option<M
 }
 
 /// Returns until when all groups that are flushed are cached as quiet, in nanoseconds since 1970. It
-/// looks no further than `at`. It takes no memory, so a look refuses no event.
+/// looks no further than `at`. It takes no memory.
 fn calm_end(store: &Store, quiet_groups: &QuietGroups, at: Moment) -> u128
     requires { IsTrueOf quiet_groups.now store.now.state }
     ensures within { result ≤ at + 1 }

@@ -16,8 +16,8 @@ const SECOND: u128 = 1_000_000_000;
 const PART: u128 = 4_294_967_296;
 
 /// A point in time: whole nanoseconds since 1970-01-01T00:00:00Z, before the year 10000. It is kept
-/// as three digits of 32 bits: most memory of a long session is moments, and a number of 128 bits
-/// takes a third more, and may only stand at multiples of 16 bytes.
+/// as three digits of 32 bits: a number of 128 bits takes a third more, and may only stand at
+/// multiples of 16 bytes.
 #[derive(Clone, Copy)]
 pub struct Moment {
     low: u32,
