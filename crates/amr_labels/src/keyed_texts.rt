@@ -23,6 +23,8 @@ use std::marker::Model;
 #[derive(Drop)]
 pub(crate) struct KeyedTexts {
     texts: TextMap,
+    /// How many texts there are. It is kept here because the texts are further away.
+    count: usize,
     /// All names and values, with a zero byte after each, or `None` if one of them has a zero byte
     /// itself. Most label sets differ only in their last labels, so comparing one text is much
     /// faster than following the texts one by one.
@@ -38,7 +40,7 @@ pub(crate) struct KeyedTexts {
 }
 
 impl Model for KeyedTexts {
-    ghost use Rattle.std.specs.Prelude.{◌≡◌, List, ℕ, IfSome, IfNone, true, false, string_bytes};
+    ghost use Rattle.std.specs.Prelude.{◌≡◌, List, ℕ, IfSome, IfNone, true, false, length, string_bytes};
     ghost use Rattle.std.specs.Coded.{coded_ℕ, coded_list};
     ghost use Rattle.amr_labels.specs.Map as map;
     ghost use Rattle.amr_labels.specs.Labels.{text_cmp};
@@ -60,7 +62,8 @@ impl Model for KeyedTexts {
         × IfSome keyed.printed (λ text. (string_bytes text ≡ object_text (map.entries keyed.texts))
         × (are_plain (map.entries keyed.texts) ≡ true))
         × IfNone keyed.printed (are_plain (map.entries keyed.texts) ≡ false)
-        × IfSome keyed.key (λ key. keyed.head ≡ text_head (string_bytes key)) };
+        × IfSome keyed.key (λ key. keyed.head ≡ text_head (string_bytes key))
+        × (keyed.count ≡ length (map.entries keyed.texts)) };
 }
 
 impl KeyedTexts {
@@ -82,12 +85,20 @@ impl KeyedTexts {
         };
         let printed = object_text(alloc, texts.entries())?;
         Ok(KeyedTexts {
+            count: texts.len(),
             texts,
             key,
             head,
             hash_value,
             printed,
         })
+    }
+
+    /// Returns the number of texts.
+    pub(crate) fn len(&self) -> usize
+        ensures { result ≡ map.len self.now }
+    {
+        self.count
     }
 
     /// Returns a number made of the texts.
@@ -122,7 +133,7 @@ impl KeyedTexts {
         ensures other { result ≡ false → map.entries self.now ≢ lent_texts stated.now }
     {
         match &self.key {
-            Some(key) => self.texts.len() == stated.len() && is_joined(key.as_str(), stated),
+            Some(key) => self.count == stated.len() && is_joined(key.as_str(), stated),
             None => are_stated(self.texts.entries(), stated),
         }
     }

@@ -116,14 +116,14 @@ impl Labels {
     pub fn len(&self) -> usize
         ensures { result ≡ map.len self.now }
     {
-        self.texts().len()
+        self.shared.get().len()
     }
 
     /// Returns whether there is no label.
     pub fn is_empty(&self) -> bool
         ensures { result ≡ (map.len self.now == 0) }
     {
-        self.texts().is_empty()
+        self.len() == 0
     }
 
     /// Returns the hash that the label set keeps.
