@@ -1,3 +1,4 @@
 pub mod Ids
 pub mod Reasons
+pub mod StatedLabels
 pub mod Times

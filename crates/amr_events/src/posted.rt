@@ -1,21 +1,20 @@
 //! Reading posted alerts from a line of a script. Only the shape is checked; whether an alert is
 //! valid is decided when it is posted.
-ghost use Rattle.std.specs.Prelude.{◌≡◌, option_map, IfOk, IfErr};
+ghost use Rattle.std.specs.Prelude.{◌≡◌, option_map, IfErr};
 ghost use Rattle.std.specs.Result.{result_ok};
 ghost use Rattle.serde_json.specs.View.{view};
 ghost use Rattle.amr_time.specs.declared.error.TimeError.TheVariants.{BadTime};
 ghost use Rattle.amr_events.specs.Answers.{Reads};
-ghost use Rattle.amr_labels.specs.Lent.{lent_texts};
 ghost use Rattle.amr_events.specs.Posted.{is_missing as is_missing_text, time_of, time_in, annotations_in, alert_of, alerts_of};
 
 use crate::error::LineError;
-use crate::posts::{PostedAlert, PostedTime};
+use crate::posts::{PostedAlert, PostedTime, lent};
 use crate::shapes::{member, texts};
 use crate::text_cache::TextCache;
-use amr_labels::{Listing, Text, TextMap};
+use amr_labels::{Listing, TextMap};
 use amr_time::{Moment, TimeError, read_moment};
 use serde_json::Value;
-use std::alloc::{AllocError, Global};
+use std::alloc::Global;
 
 /// The first moment of the year 1, which Alertmanager writes for a missing time (Go's zero time).
 const MISSING_MARKS: [&str; 10] = [
@@ -77,17 +76,6 @@ fn annotations(alloc: Global, cache: &mut TextCache, alert: &Value) -> Result<Te
         None => Vec::new(alloc),
     };
     Ok(cache.annotations_of(alloc, lent(alloc, texts.as_slice())?.as_slice())?)
-}
-
-/// Lends names and texts.
-fn lent<'a>(alloc: Global, texts: &'a [(Text, Text)]) -> Result<Vec<(&'a str, &'a str)>, AllocError>
-    ensures { IfOk result (λ lent. lent_texts lent.items ≡ texts.now) }
-{
-    let mut lent = Vec::with_capacity(alloc, texts.len())?;
-    for (name, text) in texts {
-        lent.push((name.as_str(), text.as_str()))?;
-    }
-    Ok(lent)
 }
 
 /// Reads the time under a key, if the alert has one.

@@ -10,6 +10,7 @@ mod silence_id;
 
 pub use posted_alert::PostedAlert;
 pub use posted_labels::PostedLabels;
+pub(crate) use posted_labels::lent;
 pub use posted_silence::PostedSilence;
 pub use posted_time::PostedTime;
 pub use reason::Reason;

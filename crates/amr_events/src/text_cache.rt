@@ -3,7 +3,7 @@
 //! holds each text once, and the labels of an alert once, however often they are posted. They are
 //! found by comparing them with what a line states, before any text is copied. It also keeps the
 //! patterns of silences and reloads, so that each is built once, and the configurations of reloads.
-ghost use Rattle.std.specs.Prelude.{◌≡◌, ◌≢◌, true, false, reverse, IfOk};
+ghost use Rattle.std.specs.Prelude.{◌≡◌, reverse, IfOk};
 ghost use Rattle.amr_labels.specs.Map as map;
 ghost use Rattle.amr_labels.specs.Lent.{lent_texts};
 
@@ -11,58 +11,9 @@ use crate::buckets::Buckets;
 use crate::posts::PostedLabels;
 use crate::reload_cache::ReloadCache;
 use amr_labels::matcher::Patterns;
-use amr_labels::{Labels, Text, TextMap, are_stated};
+use amr_labels::{Text, TextMap, are_stated};
 use std::alloc::{AllocError, Global};
 use std::hash::{FoldHasher, Hasher};
-use std::marker::Model;
-
-/// The labels of an alert, with the label set that has just their names and values, if they are one.
-/// Contracts see the names and values.
-#[derive(Drop)]
-struct CachedLabels {
-    posted: PostedLabels,
-    label_set: Option<Labels>,
-}
-
-impl Model for CachedLabels {
-    ghost use Rattle.std.specs.Prelude.{◌≡◌, List, ℕ, IfSome};
-    ghost use Rattle.std.specs.Coded.{codes};
-    ghost use Rattle.amr_labels.specs.Map as map;
-
-    ghost Value = { List (List ℕ × List ℕ) };
-
-    ghost coded = { Prim.hlevel codes };
-
-    ghost view = { λ cached. cached.posted };
-
-    ghost invariant = { λ cached. IfSome cached.label_set
-        (λ labels. map.entries labels ≡ cached.posted) };
-}
-
-impl CachedLabels {
-    /// Returns the labels to cache for these names and texts, which are theirs.
-    fn new(posted: PostedLabels, stated: &[(&str, &str)]) -> Result<CachedLabels, AllocError>
-        requires { posted ≡ lent_texts stated.now }
-        ensures { IfOk result (λ cached. cached ≡ posted) }
-    {
-        let label_set = match posted.label_set() {
-            Some(labels) if labels.has_entries(stated) => Some(labels.clone()?),
-            _ => None,
-        };
-        Ok(CachedLabels { posted, label_set })
-    }
-
-    /// Returns whether these are the names and texts.
-    fn are(&self, stated: &[(&str, &str)]) -> bool
-        ensures equal { result ≡ true → self.now ≡ lent_texts stated.now }
-        ensures other { result ≡ false → self.now ≢ lent_texts stated.now }
-    {
-        match &self.label_set {
-            Some(labels) => labels.has_entries(stated),
-            None => are_stated(self.posted.pairs(), stated),
-        }
-    }
-}
 
 /// Texts, labels, patterns and configurations that were read before. Looking up a text or labels
 /// mostly takes one or two comparisons.
@@ -71,7 +22,7 @@ pub(crate) struct TextCache {
     /// The texts, by their hashes.
     texts: Buckets<Text>,
     /// The labels, by the hashes of their names and values.
-    labels: Buckets<CachedLabels>,
+    labels: Buckets<PostedLabels>,
     /// The annotations, by the hashes of their names and values.
     annotations: Buckets<TextMap>,
     /// An empty map, if one was needed. All alerts without annotations share it.
@@ -110,13 +61,12 @@ impl TextCache {
     {
         let hash_value = hash_of_texts(stated);
         match self.labels.get(hash_value) {
-            Some(cached) if cached.are(stated) => return Ok(cached.posted.clone()?),
+            Some(cached) if cached.are(stated) => return Ok(cached.clone()?),
             _ => {}
         }
         let pairs = self.share_pairs(alloc, stated)?;
         let labels = PostedLabels::new(alloc, pairs)?;
-        let cached = CachedLabels::new(labels.clone()?, stated)?;
-        self.labels.insert(hash_value, cached)?;
+        self.labels.insert(hash_value, labels.clone()?)?;
         Ok(labels)
     }
 

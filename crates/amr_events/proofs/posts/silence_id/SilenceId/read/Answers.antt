@@ -15,4 +15,4 @@ returns-in-Err c = ap (option_map (from_be_bytes w128)) (none_of (parsed c.args.
 
 pub returns-in-Ok : goal.returns-in-Ok
 unfolding id_of
-returns-in-Ok c = ap Some c.as_u128.ensures ∙ ap (option_map (from_be_bytes w128)) c.in-Ok.ensures.bytes
+returns-in-Ok c = ap Some (c.from_bits.ensures ∙ c.as_u128.ensures) ∙ ap (option_map (from_be_bytes w128)) c.in-Ok.ensures.bytes

@@ -9,5 +9,5 @@ pub returns : goal.returns
 unfolding id_text
 returns c =
     let spelled : c.encode_lower.result.now ≡ id_text c.args.self =
-    c.encode_lower.ensures.text ∙ ap (hyphenated_text lower) (c.hyphenated.ensures ∙ c.from_u128.ensures ∙ ap (to_be_bytes w128) c.self.view_is) in
+    c.encode_lower.ensures.text ∙ ap (hyphenated_text lower) (c.hyphenated.ensures ∙ c.from_u128.ensures ∙ ap (to_be_bytes w128) c.bits.ensures) in
     subst (λ t. IfOk c.from_str.result (λ text. string_bytes text ≡ t)) spelled c.from_str.ensures.ok
