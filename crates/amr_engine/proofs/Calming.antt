@@ -5,6 +5,7 @@ use Rattle.std.specs.Option.{option_and_then, option_map_or}
 use Rattle.std.specs.Ordering.{eq_by_cmp, is_eq}
 use Rattle.std.proofs.Common.{refl, sym, ap, ◌∙◌, subst, inl, inr, arith}
 use Rattle.std.proofs.lemmas.Cmp.{tied_itself}
+use Rattle.std.proofs.lemmas.Option.{same_Some}
 use Rattle.amr_labels.specs.Map.{Map, get, insert, entries, get-entries, entries-sorted, get-insert, same_map}
 use Rattle.amr_labels.specs.Labels.{LabelSet, label_set_cmp, label_set_cmp_total, label_set_cmp-IsAntisymmetric}
 use Rattle.amr_time.specs.Time.{Moment, second, next_multiple_of}
@@ -400,9 +401,6 @@ numbered t is group timer got =
       | Some n ↦ λ e h. (n, is.within group n e, key_at_number route_labels_cmp_total route_labels_cmp-IsAntisymmetric t is group n e, h)
     ] refl (sym (get-shown route_labels_cmp route_labels_cmp_total t group is) ∙ got)
 
-same_value : {A : Type 0} (x y : A) → Some x ≡ Some y → x ≡ y
-same_value x y e = ap (λ o. option_map_or (λ z. z) o x) e
-
 -- so is the group with the next number
 pub one_more : (at : Moment) (s : State) (timers : Numbered RouteLabels GroupTimer) (next : ℕ) → AreQuiet at s timers next → (group : RouteLabels) (timer : GroupTimer)
     → Some group ≡ key_at timers next → Some timer ≡ value_at timers.cells next → (timer.next_flush ≤ at → IsQuietBeyond at s group timer) → AreQuiet at s timers (next + 1)
@@ -411,8 +409,8 @@ one_more at s timers next quiet group timer named timed here = λ n other its le
       | true ↦ λ e. let before : n < next = grind (arith, nat_tests) in quiet n other its before other_named its_timed due
       | false ↦ λ e.
           let same : n ≡ next = grind (arith, nat_tests) in
-          let group_is : group ≡ other = same_value group other (named ∙ ap (key_at timers) (sym same) ∙ other_named) in
-          let timer_is : timer ≡ its = same_value timer its (timed ∙ ap (value_at timers.cells) (sym same) ∙ its_timed) in
+          let group_is : group ≡ other = same_Some group other (named ∙ ap (key_at timers) (sym same) ∙ other_named) in
+          let timer_is : timer ≡ its = same_Some timer its (timed ∙ ap (value_at timers.cells) (sym same) ∙ its_timed) in
           subst (λ (x : RouteLabels × GroupTimer). IsQuietBeyond at s x.0 x.1) (λ i. (group_is i, timer_is i)) (here (subst (λ (t : GroupTimer). t.next_flush ≤ at) (sym timer_is) due))
     ] refl
 
