@@ -19,7 +19,7 @@ pub use checked_writer::{CheckedWriter, WriteFailed, flush, write_parts, write_w
 pub use last_lines::{
     cursor_text, moves_text, write_back, write_backward_seek, write_position, write_refused,
 };
-pub use lines::{event_text, notes_text};
+pub use lines::{notes_text, push_event_lines};
 pub use listings::{alert_lines, group_lines, log_lines, silence_lines};
 pub use verdicts::verdicts_text;
 pub use word::{Word, word_text};

@@ -14,7 +14,7 @@ ghost use Rattle.amreplay.specs.declared.command_lines.command.Command.TheVarian
 
 use crate::command_lines::Move;
 use crate::commands::answer::{Answer, Refusal};
-use crate::lines::{Word, event_text, moves_text};
+use crate::lines::{Word, moves_text, push_event_lines};
 use amr_engine::Outcome;
 use amr_events::actions::Event;
 use amr_replay::Session;
@@ -41,7 +41,8 @@ fn tried_text(alloc: Global, session: &mut Session, event: &Event) -> Result<Str
 {
     let cursor = session.cursor();
     let outcome = session.trial(event)?;
-    let mut text = event_text(alloc, 0, event, &outcome)?;
+    let mut text = String::new(alloc);
+    push_event_lines(&mut text, 0, event, &outcome)?;
     let moves = moves_of(&outcome);
     text.push_str(moves_text(alloc, Word::Trial, cursor, moves)?.as_str())?;
     Ok(text)
@@ -184,7 +185,7 @@ fn numbered_text(
     for outcome in outcomes {
         let event = session.event(index);
         index += 1;
-        text.push_str(event_text(alloc, index as u64, event, outcome)?.as_str())?;
+        push_event_lines(&mut text, index as u64, event, outcome)?;
     }
     Ok(text)
 }

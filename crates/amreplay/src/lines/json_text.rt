@@ -36,11 +36,21 @@ pub(crate) fn lines_text<T: ToJson>(alloc: Global, values: &[T]) -> Result<Strin
     ensures { IfOk result (λ text. string_bytes text
         ≡ flat_map (λ value. data_line (T.json value)) values.now) }
 {
-    let mut lines = String::with_capacity(alloc, values.len().min(LINES_WITH_ROOM) * LINE_ROOM)?;
-    for value in values {
-        push_line(&mut lines, value)?;
-    }
+    let mut lines = String::new(alloc);
+    push_lines(&mut lines, values)?;
     Ok(lines)
+}
+
+/// Appends the lines of values.
+pub(crate) fn push_lines<T: ToJson>(out: &mut String, values: &[T]) -> Result<(), AllocError>
+    ensures { OnOk result (string_bytes out.new
+        ≡ string_bytes out.old ++ flat_map (λ value. data_line (T.json value)) values.now) }
+{
+    out.reserve(values.len().min(LINES_WITH_ROOM) * LINE_ROOM)?;
+    for value in values {
+        push_line(out, value)?;
+    }
+    Ok(())
 }
 
 /// Appends the line of a value.

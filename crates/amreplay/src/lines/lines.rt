@@ -6,7 +6,7 @@ ghost use Rattle.amreplay.specs.Lines.Printed.{notification_line, skipped_line, 
 ghost use Rattle.amr_events.specs.Actions.Acts.{act_of};
 ghost use Rattle.amr_engine.specs.Outcomes.{outcome_view};
 
-use crate::lines::json_text::{lines_text, push, push_array};
+use crate::lines::json_text::{lines_text, push, push_array, push_lines};
 use amr_engine::Outcome;
 use amr_engine::state::Notification;
 use amr_events::actions::{Act, Event};
@@ -14,34 +14,33 @@ use amr_labels::{Shared, Text};
 use std::alloc::{AllocError, Global};
 use std::fmt::Write;
 
-/// Returns the lines of an event that had this outcome. Events are numbered from 1; an event that
+/// Appends the lines of an event that had this outcome. Events are numbered from 1; an event that
 /// is only tried has number 0.
-pub fn event_text(
-    alloc: Global,
+pub fn push_event_lines(
+    out: &mut String,
     number: u64,
     event: &Event,
     outcome: &Outcome,
-) -> Result<String, AllocError>
-    ensures { IfOk result (λ text. string_bytes text
-        ≡ event_lines number event.now (outcome_view outcome.now)) }
+) -> Result<(), AllocError>
+    ensures { OnOk result (string_bytes out.new
+        ≡ string_bytes out.old ++ event_lines number event.now (outcome_view outcome.now)) }
 {
-    let mut text = outcome_text(alloc, number, outcome)?;
-    push_label_lines(&mut text, number, event.act())?;
-    Ok(text)
+    push_outcome_lines(out, number, outcome)?;
+    push_label_lines(out, number, event.act())
 }
 
-/// Returns the lines of an outcome.
-fn outcome_text(alloc: Global, event: u64, outcome: &Outcome) -> Result<String, AllocError>
-    ensures { IfOk result (λ text. string_bytes text
-        ≡ outcome_lines event (outcome_view outcome.now)) }
+/// Appends the lines of an outcome.
+fn push_outcome_lines(out: &mut String, event: u64, outcome: &Outcome) -> Result<(), AllocError>
+    ensures { OnOk result (string_bytes out.new
+        ≡ string_bytes out.old ++ outcome_lines event (outcome_view outcome.now)) }
 {
     match outcome {
         Outcome::Accepted {
             moves: _,
             notes,
             skipped,
-        } => accepted_text(alloc, event, notes.as_slice(), skipped.as_slice()),
-        Outcome::Refused(reason) => refused_event_text(alloc, event, reason.number()),
+        } => push_accepted_lines(out, event, notes.as_slice(), skipped.as_slice()),
+        Outcome::Refused(reason) => push_refused_line(out, event, reason.number()),
     }
 }
 
@@ -73,29 +72,30 @@ fn push_label_line(out: &mut String, event: u64, text: &Text) -> Result<(), Allo
     out.push_str("}\n")
 }
 
-/// Returns the lines of an accepted event: its notifications, and the line of its skipped alerts if
+/// Appends the lines of an accepted event: its notifications, and the line of its skipped alerts if
 /// there are any.
-fn accepted_text(
-    alloc: Global,
+fn push_accepted_lines(
+    out: &mut String,
     event: u64,
     notes: &[Shared<Notification>],
     skipped: &[usize],
-) -> Result<String, AllocError>
-    ensures { IfOk result (λ text. string_bytes text ≡ flat_map notification_line notes.now
-        ++ skipped_lines event skipped.now) }
+) -> Result<(), AllocError>
+    ensures { OnOk result (string_bytes out.new ≡ string_bytes out.old
+        ++ (flat_map notification_line notes.now ++ skipped_lines event skipped.now)) }
 {
-    let mut text = notes_text(alloc, notes)?;
+    push_lines(out, notes)?;
     if !skipped.is_empty() {
-        push_skipped_line(&mut text, event, skipped)?;
+        push_skipped_line(out, event, skipped)?;
     }
-    Ok(text)
+    Ok(())
 }
 
-/// Returns the line of a refused event.
-fn refused_event_text(alloc: Global, event: u64, reason: u64) -> Result<String, AllocError>
-    ensures { IfOk result (λ text. string_bytes text ≡ refused_event_line event reason) }
+/// Appends the line of a refused event.
+fn push_refused_line(out: &mut String, event: u64, reason: u64) -> Result<(), AllocError>
+    ensures { OnOk result (string_bytes out.new
+        ≡ string_bytes out.old ++ refused_event_line event reason) }
 {
-    format!(in alloc; "{{\"event\":{event},\"reason\":{reason}}}\n")
+    write!(out, "{{\"event\":{event},\"reason\":{reason}}}\n")
 }
 
 /// Appends the line with the alerts that an event skipped, by their positions in the post, from 1.

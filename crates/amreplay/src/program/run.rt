@@ -11,7 +11,7 @@ ghost use Rattle.amr_engine.specs.Events.{outcome_of, after_event, without_notif
 ghost use Rattle.amr_engine.specs.State.State.{start};
 
 use crate::fault::Fault;
-use crate::lines::{CheckedReader, CheckedWriter, event_text, flush, write_whole};
+use crate::lines::{CheckedReader, CheckedWriter, flush, push_event_lines, write_whole};
 use crate::program::load::read_files;
 use amr_engine::{Engine, Outcome};
 use amr_events::Script;
@@ -75,17 +75,20 @@ fn write_events<W: Write>(
         engine.old.state.config script.now.events result }
     ensures ended { EndsBy result out.old.failed out.new.failed }
 {
+    let mut text = String::new(alloc);
     for number in 0..script.len() {
-        pass_event(alloc, engine, number as u64 + 1, script.event(number), out)?;
+        let event = script.event(number);
+        pass_event(engine, &mut text, number as u64 + 1, event, out)?;
     }
     Ok(())
 }
 
 /// Applies an event, drops its record and its notifications from the state, and writes its lines. A
-/// run needs neither for the events that follow.
+/// run needs neither for the events that follow. The text is that of the event before, whose memory
+/// is used again.
 fn pass_event<W: Write>(
-    alloc: Global,
     engine: &mut Engine,
+    text: &mut String,
     number: u64,
     event: &Event,
     out: &mut CheckedWriter<W>,
@@ -100,13 +103,13 @@ fn pass_event<W: Write>(
     let outcome = engine.apply(event)?;
     engine.forget();
     engine.drop_notifications();
-    write_event(alloc, number, event, &outcome, out)
+    write_event(text, number, event, &outcome, out)
 }
 
 /// Writes the lines of an event that had this outcome. Their text is built first, so that running
 /// out of memory never leaves half a line.
 fn write_event<W: Write>(
-    alloc: Global,
+    text: &mut String,
     number: u64,
     event: &Event,
     outcome: &Outcome,
@@ -116,7 +119,8 @@ fn write_event<W: Write>(
         (event_lines number event.now (outcome_view outcome.now)) result }
     ensures ended { EndsBy result out.old.failed out.new.failed }
 {
-    let text = event_text(alloc, number, event, outcome)?;
+    text.clear();
+    push_event_lines(text, number, event, outcome)?;
     write_whole(out, text.as_bytes())?;
     Ok(())
 }
