@@ -19,21 +19,22 @@ use std::cmp::Ordering;
 use std::hash::{DefaultHasher, Hasher};
 use std::marker::Model;
 
-/// Texts under names, with their sort key. Contracts see the texts.
+/// Texts under names, with their sort key. Contracts see the texts. What a look-up and a comparison
+/// read stands first, so that it lies close together.
 #[derive(Drop)]
 pub(crate) struct KeyedTexts {
-    texts: TextMap,
+    /// A hash of the sort key.
+    hash_value: usize,
+    /// A number made of the head of the sort key, or 0 if there is none. If two of them differ, the
+    /// sort key with the lesser one is the lesser, so many comparisons don't need the keys.
+    head: u64,
     /// How many texts there are. It is kept here because the texts are further away.
     count: usize,
     /// All names and values, with a zero byte after each, or `None` if one of them has a zero byte
     /// itself. Most label sets differ only in their last labels, so comparing one text is much
     /// faster than following the texts one by one.
     key: Option<String>,
-    /// A number made of the head of the sort key, or 0 if there is none. If two of them differ, the
-    /// sort key with the lesser one is the lesser, so many comparisons don't need the keys.
-    head: u64,
-    /// A hash of the sort key.
-    hash_value: usize,
+    texts: TextMap,
     /// All names and values as an object, or `None` if one of them can't stand between quotes as it
     /// is.
     printed: Option<String>,
