@@ -38,7 +38,7 @@ impl Model for LabeledPairs {
 enum StatedLabels {
     /// Those of a label set, in the order of the names, as almost all posts have them.
     OfSet(Labels),
-    /// Others: names in another order or repeated, or empty values.
+    /// Others, in which a value or a name is empty: readers give the names in order, each once.
     Others(Shared<LabeledPairs>),
 }
 
@@ -110,16 +110,6 @@ impl PostedLabels {
         let labeled = LabeledPairs::new(alloc, pairs)?;
         let stated = StatedLabels::new(alloc, labeled)?;
         Ok(PostedLabels { stated })
-    }
-
-    /// Returns the names and values.
-    pub fn pairs(&self) -> &[(Text, Text)]
-        ensures { result.now ≡ self.now }
-    {
-        match &self.stated {
-            StatedLabels::OfSet(labels) => labels.entries(),
-            StatedLabels::Others(labeled) => labeled.get().pairs(),
-        }
     }
 
     /// Returns the label set: of a repeated name the last value counts, and labels with an empty
