@@ -1,8 +1,8 @@
 -- Configurations that are alike give the same groups and the same sides.
-use Rattle.std.proofs.Common.{◌≡◌, ℕ, Bool, true, false, not, List, [], ◌∷◌, ◌++◌, ◌+◌, ◌<◌, ◌≤◌, length, get_or, take, map, Option, Some, None, refl, sym, ap, subst, ◌∙◌, arith}
-use Rattle.std.specs.Prelude.{◌&&◌, zero, suc, nat_lt, nat_eq, ◌==◌, slice_get, option_map}
+use Rattle.std.proofs.Common.{◌≡◌, ℕ, Bool, true, false, not, List, [], ◌∷◌, ◌<◌, length, get_or, map, Option, Some, None, refl, sym, ap, subst, ◌∙◌}
+use Rattle.std.specs.Prelude.{◌&&◌, zero, suc, nat_lt, ◌==◌, slice_get, option_map}
 use Rattle.std.specs.Bool.{Decides}
-use Rattle.std.specs.Cmp.{IsTotalOrder, unsigned_Decides}
+use Rattle.std.specs.Cmp.{IsTotalOrder}
 use Rattle.std.specs.Cmp.Lexicographic.{pointwise, nat_list_cmp_total}
 use Rattle.std.specs.FinMap.{IsAntisymmetric}
 use Rattle.std.specs.declared.cmp.Ordering.{Ordering}
@@ -11,15 +11,13 @@ use Rattle.std.proofs.lemmas.Bool.{false≢true}
 use Rattle.std.proofs.lemmas.Cmp.{eq_by_cmp_equiv}
 use Rattle.std.proofs.lemmas.Map.Views.{tells_apart}
 use Rattle.std.proofs.lemmas.Slice.Eq.{slice_eq-Decides}
-use Rattle.std.specs.Option.{option_map_or, option_or, option_eq}
+use Rattle.std.specs.Option.{option_map_or, option_or}
 use Rattle.std.specs.List.{list_all, list_any, filter, range_with_len}
-use Rattle.std.proofs.lemmas.List.{length-map, get_or-map, map-append, take_all, take_more}
-use Rattle.std.proofs.lemmas.Option.{none-some, same_Some, slice_get-map}
+use Rattle.std.proofs.lemmas.List.{length-map, get_or-map}
+use Rattle.std.proofs.lemmas.Option.{slice_get-map}
 use Rattle.std.proofs.lemmas.Simd.{map-map}
 use Rattle.amr_labels.specs.Labels.{Text, text_cmp, text_cmp-IsAntisymmetric, LabelSet}
 use Rattle.amr_labels.specs.Matcher.Matchers.{Matcher, all_hold, matcher_cmp, matcher_cmp_total, matcher_cmp-IsAntisymmetric}
-use Rattle.amr_config.specs.declared.stated.route.Grouping.{Grouping}
-use Rattle.amr_config.specs.declared.stated.route.Grouping.TheVariants.{AllLabels, Named}
 use Rattle.amr_config.specs.declared.stated.route.Route.{Route}
 use Rattle.amr_config.specs.declared.stated.rule.InhibitRule.{InhibitRule}
 use Rattle.amr_config.specs.declared.stated.rule_sides.RuleMatch.{RuleMatch}
@@ -96,27 +94,10 @@ same_cached a b alike labels =
 -- ---- lists whose elements are alike, one by one
 
 module _ {X Y : Type 0} (f : X → Y) (xs ys : List X) (k : ℕ) (x y : X) (within : k < length xs) (within_other : k < length ys) (x_is : x ≡ get_or xs k x) (y_is : y ≡ get_or ys k y) where
-  pub alike_more : map f (take k xs) ≡ map f (take k ys) → f x ≡ f y → map f (take (k + 1) xs) ≡ map f (take (k + 1) ys)
-  alike_more so_far is =
-      let more : map f (take (k + 1) xs) ≡ map f (take k xs) ++ f x ∷ [] =
-      ap (map f) (take_more xs k x within) ∙ map-append f (take k xs) (get_or xs k x ∷ []) ∙ ap (λ z. map f (take k xs) ++ f z ∷ []) (sym x_is) in
-      let more_other : map f (take (k + 1) ys) ≡ map f (take k ys) ++ f y ∷ [] =
-      ap (map f) (take_more ys k y within_other) ∙ map-append f (take k ys) (get_or ys k y ∷ []) ∙ ap (λ z. map f (take k ys) ++ f z ∷ []) (sym y_is) in
-      more ∙ (λ i. so_far i ++ is i ∷ []) ∙ sym more_other
-
   pub alike_at : map f xs ≡ map f ys → f x ≡ f y
   alike_at same =
       ap f x_is ∙ sym (get_or-map f xs k x (f x) within) ∙ ap (λ zs. get_or zs k (f x)) same
       ∙ get_or-map f ys k y (f x) within_other ∙ ap f (sym y_is)
-
--- as many as there are
-pub alike_all : {X Y : Type 0} (f : X → Y) (xs ys : List X) (k : ℕ) → length xs ≡ length ys → length xs ≤ k → map f (take k xs) ≡ map f (take k ys) → map f xs ≡ map f ys
-alike_all f xs ys k long le same =
-    let le_other : length ys ≤ k = omega (arith, long, le) in
-    ap (map f) (sym (take_all k xs le)) ∙ same ∙ ap (map f) (take_all k ys le_other)
-
-pub alike_long : {X Y : Type 0} (f : X → Y) (xs ys : List X) → map f xs ≡ map f ys → length xs ≡ length ys
-alike_long f xs ys same = sym (length-map xs f) ∙ ap length same ∙ length-map ys f
 
 -- ---- tests of two parts
 
@@ -130,26 +111,8 @@ first_fails v r first part fails is = (λ yes. absurd (false≢true (sym is ∙ 
 pub tie_decides : {K : Type 0} {R : K → K → Ordering} → IsTotalOrder R → IsAntisymmetric R → (x y : K) → Decides (eq_by_cmp R x y) (x ≡ y)
 tie_decides {K} {R} total same x y = (tells_apart same x y, λ e. subst (λ z. eq_by_cmp R x z ≡ true) e ((eq_by_cmp_equiv total).refl x))
 
-pub parents_decide : (x y : Option ℕ) → Decides (option_eq nat_eq x y) (x ≡ y)
-parents_decide None None = (λ e. refl, λ e. refl)
-parents_decide None (Some y) = (λ e. absurd (false≢true e), λ e. absurd (none-some y e))
-parents_decide (Some x) None = (λ e. absurd (false≢true e), λ e. absurd (none-some x (sym e)))
-parents_decide (Some x) (Some y) = (λ e. ap (λ z. Some z) ((unsigned_Decides x y).0 e), λ e. (unsigned_Decides x y).1 (same_Some x y e))
-
 pub matchers_decide : (xs ys : List Matcher) (r : Bool) → r ≡ pointwise (eq_by_cmp matcher_cmp) xs ys → Decides r (xs ≡ ys)
 matchers_decide = slice_eq-Decides (tie_decides matcher_cmp_total matcher_cmp-IsAntisymmetric)
 
 pub names_decide : (xs ys : List Text) (r : Bool) → r ≡ pointwise (eq_by_cmp text_cmp) xs ys → Decides r (xs ≡ ys)
 names_decide = slice_eq-Decides (tie_decides nat_list_cmp_total text_cmp-IsAntisymmetric)
-
-pub same_part : (r s : Route) → r.parent ≡ s.parent → r.continues ≡ s.continues → r.matchers ≡ s.matchers → r.group_by ≡ s.group_by → routing_part r ≡ routing_part s
-same_part r s parent continues matchers group_by = λ i. record { parent = parent i; matchers = matchers i; continues = continues i; group_by = group_by i }
-
-names_in : Option Grouping → List Text
-names_in None = []
-names_in (Some AllLabels) = []
-names_in (Some (Named names)) = names
-
-pub named_decides : (names others : List Text) (r : Bool) → Decides r (names ≡ others) → Decides r (Some (Named names) ≡ Some (Named others))
-unfolding names_in
-named_decides names others r decides = (λ yes. ap (λ ns. Some (Named ns)) (decides.0 yes), λ same. decides.1 (ap names_in same))

@@ -89,11 +89,6 @@ rule_more names more rules k rule within is so_far added name =
 pub rules_all : (names : List Text) (rules : List InhibitRule) (k : ℕ) → length rules ≤ k → AreNamesOf (take k rules) names → AreNamesOf rules names
 rules_all names rules k le so_far name = so_far name ∙ ap (λ rs. is_named_by rs name) (take_all k rules le)
 
--- the names of both sides of a rule
-pub both_sides : (old between more : List Text) (source target : List Matcher) (name : Text) → is_among between name ≡ (is_among old name || is_named source name) → is_among more name ≡ (is_among between name || is_named target name) → is_among more name ≡ (is_among old name || (is_named source name || is_named target name))
-both_sides old between more source target name first second =
-    second ∙ ap (λ b. b || is_named target name) first ∙ or_twice (is_among old name) (is_named source name) (is_named target name)
-
 -- the labels with these names
 pub kept_by : (rules : List InhibitRule) (names : List Text) (labels : LabelSet) → AreNamesOf rules names → retain_keys labels (λ name. is_among names name) ≡ kept_for rules labels
 unfolding kept_for

@@ -8,7 +8,7 @@ use Rattle.serde_json.specs.Find.{get, as_str, as_bool, as_array}
 use Rattle.amr_time.specs.Time.{Moment, second, latest_read}
 use Rattle.amr_time.specs.MomentRead as moments
 use Rattle.amr_time.specs.MomentRead.{moment_at, in_range}
-use Rattle.amr_events.specs.Actions.Events.{Act, Event}
+use Rattle.amr_events.specs.Actions.Events.{Act}
 use Rattle.amr_events.specs.Actions.Events as events
 use Rattle.amr_config.specs.Read.Members.{unless_null}
 use Rattle.amr_events.specs.Shapes.{◌>>=◌, each_item, texts_in, moment_under}

@@ -1,5 +1,5 @@
 -- The steps of a reader of scripts.
-use Rattle.std.proofs.Common.{◌≡◌, ℕ, ◌+◌, ◌<◌, ◌≤◌, List, [], ◌∷◌, ◌++◌, length, Result, Ok, Err, OnOk, refl, sym, ap, ◌∙◌, subst, arith, append-nil, append_assoc, length-append}
+use Rattle.std.proofs.Common.{◌≡◌, ℕ, ◌+◌, ◌<◌, ◌≤◌, List, [], ◌∷◌, ◌++◌, length, Result, Ok, Err, OnOk, refl, sym, ap, ◌∙◌, subst, arith, append_assoc, length-append}
 use Rattle.std.proofs.lemmas.List.{length_push}
 use Rattle.amr_events.specs.Answers.{IsStop, Stops, IsRefused}
 use Rattle.amr_events.specs.Scripts.{lines_of, longest_line, Script, ReadAs, HasFault, HasFirstFault, ScriptIs}
@@ -31,9 +31,6 @@ none_of [] none = refl
 none_of (x ∷ l) none = absurd (omega (arith, none))
 
 -- ---- one step after another
-
-pub follows_none : (reader : ScriptReader) → Follows [] reader reader
-follows_none reader earlier has = subst (λ l. HasRead l reader) (sym (append-nil earlier)) has
 
 module _ (xs ys : List ℕ) (old between : ScriptReader) where
   pub follows_more : (new : ScriptReader) → Follows xs old between → Follows ys between new → Follows (xs ++ ys) old new
@@ -107,9 +104,6 @@ module _ (bytes : List ℕ) (reader : ScriptReader) (has : HasRead bytes reader)
     last_read new script version events adds =
         let same : so_far new ≡ script = λ i. record { version = sym version i; events = sym events i } in
         subst (ReadAs (lines_of bytes)) same (subst (λ ls. ReadAs ls (so_far new)) (sym all) (reads_one_more has.ended line (so_far reader.draft) (so_far new) has.read adds))
-
-    pub last_fails : (fault : Fault) → HasFault reader.draft.number (begins_with (so_far reader.draft) line) line (so_far reader.draft) fault → ScriptIs bytes (Err fault)
-    last_fails fault fails = subst (λ ls. HasFirstFault ls fault) (sym all) (fails_first has.ended line [] reader.draft.number (so_far reader.draft) fault has.number has.read fails)
 
 pub stop_refuses : {Y : Type 0} {P : Fault → Type 0} (Is : Result Y Fault → Type 0) (e : ScriptError) → ((fault : Fault) → P fault → Is (Err fault)) → IsStop P e → IsRefused Is e
 stop_refuses Is Memory f stop = tt

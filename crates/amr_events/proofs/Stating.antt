@@ -139,19 +139,12 @@ module _ {A : Type 0} (reads : Data → Option A) where
   onto_push front x None = refl
   onto_push front x (Some p) = ap (λ xs. Some (xs, p.1)) (sym (append_assoc front (x ∷ []) p.0))
 
-  onto_none : (o : Option (List A × List Token)) → o ≡ onto [] o
-  onto_none None = refl
-  onto_none (Some p) = refl
-
   module _ (depth : ℕ) where
     -- the items of an array that begins at one position have been read up to another
     pub record ItemsLeft (start now : List Token) (front : List A) : Type 0 where
       pub turns : ℕ
       pub enough : length now ≤ turns
       pub same : items_read depth (length start) start ≡ onto front (items_read depth turns now)
-
-    pub no_item_read : (start : List Token) → ItemsLeft start start []
-    no_item_read start = record { turns = length start; enough = omega arith; same = onto_none _ }
 
     pub one_more_item : (start now rest : List Token) (front : List A) (x : A) → ItemsLeft start now front → after_end_array now ≡ None → length rest < length now
         → States (λ d. reads d ≡ Some x) depth now rest → ItemsLeft start rest (front ++ x ∷ [])

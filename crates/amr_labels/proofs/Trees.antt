@@ -5,14 +5,14 @@ use Rattle.std.specs.declared.cmp.Ordering.TheVariants.{Less, Equal, Greater}
 use Rattle.std.specs.Ordering.{is_lt, is_eq, eq_by_cmp, match_ordering}
 use Rattle.std.specs.FinMap.{find, put, is_sorted}
 use Rattle.std.specs.FinMap.Entries.{below_all, by_order, where_key}
-use Rattle.std.specs.Map.{lookup, remove_entry}
+use Rattle.std.specs.Map.{lookup}
 use Rattle.std.specs.List.{AllByRecursion}
 use Rattle.std.specs.List.Sorted.{IsStrictlySortedBy}
 use Rattle.std.specs.Cmp.{IsTotalOrder}
 use Rattle.std.specs.BTreeMap as tree
 use Rattle.std.specs.BTreeMap.{BTreeMap, insert_entry}
 use Rattle.std.proofs.lemmas.Map.Keys.{sorted_head, sorted_tail}
-use Rattle.amr_labels.specs.Map.{from_sorted, entries, get, insert, remove, empty, entries-from_sorted, entries-retain_keys, entries-insert, get-entries, same_entries_map}
+use Rattle.amr_labels.specs.Map.{from_sorted, entries, get, insert, empty, entries-from_sorted, entries-insert, get-entries, same_entries_map}
 use Rattle.amr_labels.proofs.Sorted.{both, first, second, less}
 
 module _ {K X : Type 0} (R : K → K → Ordering) where
@@ -61,21 +61,6 @@ module _ {K X : Type 0} {R : K → K → Ordering} (o : IsTotalOrder R) where
       ap (λ r. cond (not (is_eq r)) (f ∷ rest) rest) (o.congr k x f.0 e ∙ less _ (first _ _ h))
       ∙ ap (λ t. f ∷ t) (apart k x es e (second _ _ h))
 
-  -- std's removal is the finite map's
-  pub removed_is : (k : K) (es : List (K × X)) → T (is_sorted R es) → remove_entry (tree.is_at (R k)) es ≡ where_key R (λ y. not (eq_by_cmp R k y)) es
-  removed_is k [] h = refl
-  removed_is k (e ∷ es) h =
-      elim (R k e.0) as (λ r. R k e.0 ≡ r → cond (is_eq r) es (e ∷ remove_entry (tree.is_at (R k)) es) ≡ cond (not (is_eq r)) (e ∷ where_key R (λ y. not (eq_by_cmp R k y)) es) (where_key R (λ y. not (eq_by_cmp R k y)) es)) [
-        | Less ↦ λ t. ap (λ t. e ∷ t) (removed_is k es (second _ _ h))
-        | Equal ↦ λ t. sym (apart k e.0 es t (first _ _ h))
-        | Greater ↦ λ t. ap (λ t. e ∷ t) (removed_is k es (second _ _ h))
-      ] refl
-
   pub insert_of_tree : (m n : BTreeMap K X) (k : K) (v : X) → tree.IsOrdered R m → tree.IsOrdered R n → n.entries ≡ insert_entry R m.entries k v → from_sorted {R = R} n.entries ≡ insert (from_sorted m.entries) k v
   insert_of_tree m n k v hm hn e =
       same_entries_map _ _ (entries_of_tree R n hn ∙ e ∙ put_is R m.entries k v ∙ ap (put R k v) (sym (entries_of_tree R m hm)) ∙ sym (entries-insert o (from_sorted m.entries) k v))
-
-  pub remove_of_tree : (m n : BTreeMap K X) (k : K) → tree.IsOrdered R m → tree.IsOrdered R n → n.entries ≡ remove_entry (tree.is_at (R k)) m.entries → from_sorted {R = R} n.entries ≡ remove (from_sorted m.entries) k
-  unfolding remove
-  remove_of_tree m n k hm hn e =
-      same_entries_map _ _ (entries_of_tree R n hn ∙ e ∙ removed_is k m.entries (sorted_entries R m.entries hm) ∙ ap (where_key R (λ y. not (eq_by_cmp R k y))) (sym (entries_of_tree R m hm)) ∙ sym (entries-retain_keys (from_sorted m.entries) _))

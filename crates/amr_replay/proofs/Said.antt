@@ -8,10 +8,10 @@ use Rattle.std.specs.Ordering.{is_gt, ordering_reverse}
 use Rattle.std.proofs.lemmas.Bool.{le-leb, lt-leb, leb-true}
 use Rattle.amr_time.specs.Time.{Moment}
 use Rattle.amr_events.specs.Posts.Reasons.{Reason}
-use Rattle.amr_events.specs.Actions.Events.{Event, is_label}
+use Rattle.amr_events.specs.Actions.Events.{Event}
 use Rattle.amr_engine.specs.State.State.{State}
 use Rattle.amr_engine.specs.State.Dues.{Due, due_cmp, due_cmp_total, due_cmp-IsAntisymmetric, due_by, least_due, dues, next_due}
-use Rattle.amr_engine.specs.Events.{Accepted, Refused, do_event, outcome_of, outcome_from, after_event, at_moment, skipped_of, move_limit}
+use Rattle.amr_engine.specs.Events.{Accepted, Refused, do_event, outcome_of, outcome_from, after_event, at_moment, move_limit}
 use Rattle.amr_engine.specs.Said.{Does, Refuses, IsIn, IsLeast}
 use Rattle.amr_engine.proofs.MovesLaws.{least_due-empty, least_due-IsLeast, Advances-ends, do_within-label, do_within-Does, Does-do_within}
 use Rattle.amr_engine.proofs.Endings.{none_skipped}

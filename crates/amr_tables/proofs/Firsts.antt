@@ -244,13 +244,6 @@ module _ (rank : ℕ → ℕ → Ordering) (e : Earliest) (moments : List (Optio
 
 -- ---- the same moments in a longer tournament
 
-pub kept_longer : (rank : ℕ → ℕ → Ordering) (e : Earliest) (rest : Tournament) → ((n : ℕ) → tournament.moment_at rest n ≡ tournament.moment_at e.rest n) → IsTournament rank rest → AreKept rank e → AreKept rank (record e { rest = rest })
-kept_longer rank e rest same played kept = record { queue = kept.queue; rest = played; stands = λ s at. by s (kept.stands s at) }
-  where
-    by : (s : NumberedMoment) → Stands e s → Stands (record e { rest = rest }) s
-    by s (inl h) = inl h
-    by s (inr h) = inr (same s.number ∙ h)
-
 pub held_longer : (e : Earliest) (rest : Tournament) → ((n : ℕ) → tournament.moment_at rest n ≡ tournament.moment_at e.rest n) → (n : ℕ) → IsHeld (record e { rest = rest }) n → IsHeld e n
 held_longer e rest same n (m, inl h) = (m, inl h)
 held_longer e rest same n (m, inr h) = (m, inr (sym (same n) ∙ h))

@@ -154,9 +154,3 @@ nothing_linked gs ns ps fs no_groups no_firsts = record {
 
     no_first : (g n : ℕ) (A : Type 0) → value_at fs g ≡ Some n → A
     no_first g n A e = absurd (omega (arith, within fs g n e, ap length no_firsts))
-
--- a number that is in no group stays there
-pub left_free : (gs : List (Option ℕ)) (n : ℕ) → n < length gs → value_at gs n ≡ None → gs ≡ slice_set gs n None
-left_free [] n h e = absurd (omega arith)
-left_free (x ∷ gs) zero h e = ap (λ (o : Option ℕ). o ∷ gs) e
-left_free (x ∷ gs) (suc n) h e = ap (λ (r : List (Option ℕ)). x ∷ r) (left_free gs n (omega arith) e)

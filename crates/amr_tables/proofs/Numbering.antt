@@ -303,11 +303,6 @@ some_of : {A : Type 0} (f : A → Bool) (o : Option A) → option_map_or f o fal
 some_of f None e = cc
 some_of f (Some x) e = refl
 
--- what is entered has a place
-pub entered-placed : {K V : Type 0} (R : K → K → Ordering) (t : Numbered K V) (k : K) → is_entered R t k ≡ true → IsTrue (has_place R t k)
-unfolding is_entered has_place
-entered-placed R t k e = some_of (is_marked t.marks) (find R k t.numbers) e
-
 pub or_right : (a b : Bool) → IsTrue b → IsTrue (a || b)
 or_right true b h = refl
 or_right false b h = h

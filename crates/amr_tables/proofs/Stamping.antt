@@ -31,22 +31,10 @@ module _ {V : Type 0} where
   abbrev pub places_of : ℕ → List (Cell V) → Places V
   places_of present cells = record { values = values cells; marks = marks present cells }
 
-  kept_marks : (present : ℕ) (cells : List (Cell V)) (n : ℕ) (cell : Cell V) (v : Option V) → cell ≡ slice_index_or cells n cell → marks present (slice_set cells n (record { value = v; stamp = cell.stamp })) ≡ marks present cells
-  kept_marks present [] n cell v is = refl
-  kept_marks present (c ∷ cells) zero cell v is = ap (λ (x : Cell V). nat_eq x.stamp present ∷ marks present cells) is
-  kept_marks present (c ∷ cells) (suc n) cell v is = ap (λ ms. nat_eq c.stamp present ∷ ms) (kept_marks present cells n cell v is)
-
   pub kept_values : (cells : List (Cell V)) (n : ℕ) (cell : Cell V) (stamp : ℕ) → cell ≡ slice_index_or cells n cell → values (slice_set cells n (record { value = cell.value; stamp = stamp })) ≡ values cells
   kept_values [] n cell stamp is = refl
   kept_values (c ∷ cells) zero cell stamp is = ap (λ (x : Cell V). x.value ∷ values cells) is
   kept_values (c ∷ cells) (suc n) cell stamp is = ap (λ vs. c.value ∷ vs) (kept_values cells n cell stamp is)
-
-  -- a value is set, and no mark changes
-  pub places_displaced : (present : ℕ) (cells : List (Cell V)) (n : ℕ) (cell : Cell V) (v : Option V) → cell ≡ slice_index_or cells n cell → places_of present (slice_set cells n (record { value = v; stamp = cell.stamp })) ≡ record (places_of present cells) { values = slice_set (values cells) n v }
-  places_displaced present cells n cell v is = λ i. record {
-    values = map-set value_of cells n (record { value = v; stamp = cell.stamp }) i;
-    marks = kept_marks present cells n cell v is i;
-  }
 
   -- a value is set, and its place is marked
   pub places_swapped : (present : ℕ) (cells : List (Cell V)) (n : ℕ) (v : Option V) → places_of present (slice_set cells n (record { value = v; stamp = present })) ≡ record { values = slice_set (values cells) n v; marks = slice_set (marks present cells) n true }

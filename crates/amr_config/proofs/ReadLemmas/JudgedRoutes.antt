@@ -8,7 +8,6 @@ use Rattle.serde_json.specs.Find.{as_array}
 use Rattle.amr_labels.specs.Labels.{Text}
 use Rattle.amr_time.specs.SpanRead.{span_of}
 use Rattle.amr_config.specs.declared.stated.route.Route.{Route}
-use Rattle.amr_config.specs.declared.stated.rule.InhibitRule.{InhibitRule}
 use Rattle.amr_config.specs.Read.Paths.{under, item_path}
 use Rattle.amr_config.specs.Read.Members.{member_of, optional, optional_member, or_faulty, text_at, flag_at, items_at, span_at, texts_at, any_item, list_in}
 use Rattle.amr_config.specs.Read.ReadIntervals.{names_at}
@@ -16,7 +15,7 @@ use Rattle.amr_config.specs.Read.Readings.{give, next, items_in_turn}
 use Rattle.amr_config.specs.Read.RouteParts.{grouping_stated, children_at, is_deeper, is_too_deep}
 use Rattle.amr_config.specs.Read.ReadRoutes.{route_at, own_into, add_route, child_into, tree_from, routes_at}
 use Rattle.amr_config.specs.Read.Walking.{walked_at}
-use Rattle.amr_config.specs.Read.Table.{IsText, IsFlag, IsDuration, IsListOf, StatesIf, States, StatesOr, HasAt, IsGrouping, IsDefinedName, IsRoute, IsArray, IsTree, Tree, AreTrees, NoMore, OneMore, IsRule, StatesWhole}
+use Rattle.amr_config.specs.Read.Table.{IsText, IsFlag, IsDuration, IsListOf, StatesIf, States, HasAt, IsGrouping, IsDefinedName, IsRoute, IsArray, IsTree, Tree, AreTrees, NoMore, OneMore, StatesWhole}
 use Rattle.amr_config.specs.Read.Faults.{Finding, Fault, text_found, flag_found, object_found, spelled_found, each_found, items_found, list_found, if_there, at, if_there_or, needed_at, match_found, defined_name_found, route_found, global_found, rule_found, receiver_found, interval_list_found, names_under, findings_of}
 use Rattle.amr_config.proofs.ReadLemmas.Judged.{Judged, by_findings, judged_ok, judged_fault, judged_then, judged_as, judged_map, judged_stated, judged_text, judged_flag, judged_object}
 use Rattle.amr_config.proofs.ReadLemmas.JudgedParts.{judged_texts, judged_span, judged_names, judged_timeout, judged_defined, names_under_read}
@@ -178,9 +177,6 @@ unfolding routes_at is_too_deep
 walk_routes d shallow = walk_tree d (member_of (codes "route") d) shallow
 
 -- ---- a whole configuration
-
-abbrev StatesRules : Data → List InhibitRule → Type 0
-StatesRules = StatesOr [] (IsListOf IsRule) (codes "inhibit_rules")
 
 whole_found : Data → List Finding
 whole_found d =

@@ -1,13 +1,12 @@
 -- The text of an object or an array, from the texts that are pushed one after another.
-use Rattle.std.proofs.Common.{◌≡◌, ℕ, ◌+◌, ◌<◌, ◌≤◌, Bool, true, false, T, List, [], ◌∷◌, ◌++◌, length, drop, get_or, map, Result, Ok, Err, OnOk, is_ok, if◌then◌else◌, sym, ap, ◌∙◌, append_assoc, append-nil}
+use Rattle.std.proofs.Common.{◌≡◌, ℕ, ◌+◌, ◌<◌, ◌≤◌, Bool, true, false, T, List, [], ◌∷◌, ◌++◌, length, drop, get_or, Result, Ok, Err, OnOk, is_ok, if◌then◌else◌, sym, ap, ◌∙◌, append_assoc, append-nil}
 use Rattle.std.proofs.lemmas.Result.{on_ok_weaker}
 use Rattle.std.proofs.lemmas.List.{at_drop_more, at_drop_all}
 use Rattle.std.specs.FinMap.{is_sorted}
 use Rattle.json.specs.Token as token
 use Rattle.json.specs.Print.{quoted, print, print_from}
-use Rattle.serde_json.specs.Data.{Data, object}
-use Rattle.serde_json.specs.View.{items_of}
-use Rattle.serde_json.specs.Written.{compact_text, items_text, members_text, comma_if}
+use Rattle.serde_json.specs.Data.{object}
+use Rattle.serde_json.specs.Written.{compact_text, members_text, comma_if}
 use Rattle.amr_labels.specs.Labels.{Text, text_cmp}
 use Rattle.amreplay.specs.Lines.Printed.{texts_data}
 use Rattle.amreplay.proofs.LinesLemmas.Members.{in_order, fold_in_order}
@@ -35,12 +34,6 @@ joined r new pushed whole last same = on_ok_weaker r (λ made. made ∙ same) la
 pub kept : (out next piece rest left whole : List ℕ) → next ≡ out ++ piece → rest ≡ piece ++ left → out ++ rest ≡ whole → next ++ left ≡ whole
 kept out next piece rest left whole made split all =
     ap (λ l. l ++ left) made ∙ append_assoc out piece left ∙ ap (λ l. out ++ l) (sym split) ∙ all
-
--- the same of a piece that is pushed in two
-pub kept_two : (out middle next first second rest left whole : List ℕ)
-    → middle ≡ out ++ first → next ≡ middle ++ second → rest ≡ (first ++ second) ++ left → out ++ rest ≡ whole → next ++ left ≡ whole
-kept_two out middle next first second rest left whole a b split all =
-    kept out next (first ++ second) rest left whole (b ∙ ap (λ l. l ++ second) a ∙ append_assoc out first second) split all
 
 -- the bracket that closes is pushed last
 pub closed : {E : Type 0} (r : Result (Unit {0}) E) (before start out end bracket all close rest : List ℕ)
@@ -70,17 +63,6 @@ next_member later es i d h =
 pub no_member : (later : Bool) (es : List (Text × Text)) (i : ℕ) → length es ≤ i → members_text later (in_order (drop i es)) ≡ 125 ∷ []
 unfolding in_order
 no_member later es i h = at_drop_all (λ rest. members_text later (in_order rest)) es i h
-
--- ---- an array
-
-pub next_item : {X : Type 0} (f : X → Data) (later : Bool) (xs : List X) (i : ℕ) (d : X) → i < length xs
-    → items_text later (items_of (map f (drop i xs))) ≡ (comma_if later ++ compact_text (f (get_or xs i d))) ++ items_text true (items_of (map f (drop (i + 1) xs)))
-next_item f later xs i d h =
-    at_drop_more (λ rest. items_text later (items_of (map f rest))) xs i d h
-    ∙ sym (append_assoc (comma_if later) (compact_text (f (get_or xs i d))) (items_text true (items_of (map f (drop (i + 1) xs)))))
-
-pub no_item : {X : Type 0} (f : X → Data) (later : Bool) (xs : List X) (i : ℕ) → length xs ≤ i → items_text later (items_of (map f (drop i xs))) ≡ 93 ∷ []
-no_item f later xs i h = at_drop_all (λ rest. items_text later (items_of (map f rest))) xs i h
 
 -- ---- a string alone, as a writer of tokens prints it
 

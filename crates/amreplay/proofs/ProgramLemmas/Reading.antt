@@ -8,13 +8,6 @@ use Rattle.amr_config.specs.declared.read.error.Refusal.{Refusal}
 use Rattle.amreplay.specs.Program.Files.{longest_config, ConfigFileIs}
 use Rattle.amreplay.specs.Program.Input.{StandFor, MayHold}
 
--- all was read
-stand_at_end : {A : Type 0} (Is : List ℕ → A → Type 0) (old new : Option (List ℕ)) (bytes : List ℕ) → Consumes old new bytes → IsAtEnd new → StandFor Is old bytes
-stand_at_end Is None new bytes consumed end = tt
-stand_at_end Is (Some all) None bytes consumed end = absurd consumed
-stand_at_end Is (Some all) (Some left) bytes consumed end = λ answer is.
-    subst (λ l. Is l answer) (sym (consumed ∙ ap (λ l. bytes ++ l) end ∙ append-nil bytes)) is
-
 -- what follows doesn't count
 stand_cut : {A : Type 0} (Is : List ℕ → A → Type 0) (old new : Option (List ℕ)) (bytes : List ℕ) → Consumes old new bytes
     → ((more : List ℕ) (answer : A) → Is bytes answer → Is (bytes ++ more) answer) → StandFor Is old bytes
@@ -29,9 +22,6 @@ too_long bytes more judged long is =
     let all : longest_config < length (bytes ++ more) = omega (arith, long, length-append bytes more) in
     let longer : nat_lt longest_config (length (bytes ++ more)) ≡ true = lt-ltb longest_config (length (bytes ++ more)) all in
     rw longer (rw short at is)
-
-pub config_whole : (old new : Option (List ℕ)) (bytes : List ℕ) → Consumes old new bytes → IsAtEnd new → StandFor ConfigFileIs old bytes
-config_whole = stand_at_end ConfigFileIs
 
 pub config_cut : (old new : Option (List ℕ)) (bytes : List ℕ) → Consumes old new bytes → longest_config < length bytes → StandFor ConfigFileIs old bytes
 config_cut old new bytes consumed long = stand_cut ConfigFileIs old new bytes consumed (λ more judged. too_long bytes more judged long)
