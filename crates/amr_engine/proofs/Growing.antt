@@ -101,7 +101,7 @@ put_more config was alerts alert rest now later bound so_far is same grown =
 
 -- the entries of a reload
 pub reloaded : (s : State) (config replacing : Config) (alerts : List (LabelSet × Alert)) (after : State) (now replaced placed : ℕ) → after ≡ with_config s config → replacing ≡ config
-    → alerts ≡ entries s.alerts → replaced ≤ now + (1 + len s.timers + len s.placements) → placed ≤ replaced + 2 * copies replacing alerts → placed ≤ now + reload_entries s after
+    → alerts ≡ entries s.alerts → replaced ≤ now + 1 → placed ≤ replaced + 2 * copies replacing alerts → placed ≤ now + reload_entries after
 reloaded s config replacing alerts after now replaced placed is same all first later =
     let members : len after.placements ≡ copies replacing alerts =
     ap (λ (x : State). len x.placements) is ∙ copies_are_members s config ∙ (λ i. copies (sym same i) (sym all i)) in

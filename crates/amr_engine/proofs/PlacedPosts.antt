@@ -169,9 +169,6 @@ module _ (s : State) (labels : LabelSet) (alert : Alert) where
   unfolding insert_into_groups
   inserted_moment = on_each_moment labels alert (chosen_routes s.config labels) s
 
-pub in_groups : (at : Moment) (s : State) → IsPlaced at s → AreInGroups s
-in_groups at s placed = record { chosen_only = placed.chosen_only; timed = placed.timed }
-
 -- ---- a post
 
 module _ (at : Moment) (s : State) (labels : LabelSet) (stored : Alert) where

@@ -4,7 +4,4 @@ pub mod Scheduling
 pub mod Rostering
 pub mod Placed
 pub mod Undoing
-pub mod Fitting
 pub mod Soundness
-pub mod Emptied
-pub mod Flushed

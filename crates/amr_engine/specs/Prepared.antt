@@ -35,7 +35,7 @@ abbrev pub entries_of : prepare.Prepared → State → State → ℕ
 entries_of (Put posted) before after = alerts_weight before.config (valid_alerts before posted.now)
 entries_of (Silence id new_id silence_update) before after = 2
 entries_of (Expire id ended) before after = 1
-entries_of (Reload config) before after = reload_entries before after
+entries_of (Reload config) before after = reload_entries after
 entries_of Tick before after = 0
 
 -- what the moves of an event leave as it is, with the clock at the event

@@ -43,10 +43,10 @@ first_weight (suc most) at s = option_map_or (λ due. move_weight s due due.kind
 abbrev pub groups_weight : State → ℕ
 groups_weight s = len s.timers + len s.placements
 
--- the entries of a reload: one for the configuration, one for each group and member before, and two
--- for each member after, for itself and its group's timer
-abbrev pub reload_entries : State → State → ℕ
-reload_entries before after = 1 + groups_weight before + 2 * groups_weight after
+-- the entries of a reload: one for the configuration with its groups, and two for each member after
+-- it, for itself and its group's timer
+abbrev pub reload_entries : State → ℕ
+reload_entries after = 1 + 2 * groups_weight after
 
 -- what a valid alert may displace: itself, and on each chosen route a member and a timer
 abbrev pub alert_weight : Config → LabelSet → ℕ

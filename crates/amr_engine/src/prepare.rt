@@ -1,6 +1,6 @@
 //! Preparing an event's action, before the moves: the reason that refuses it, or what it will do.
 //! `apply.rt` calls `prepare` and performs the result after the moves. Nothing is stored here.
-ghost use Rattle.std.specs.Prelude.{◌≡◌, ◌≤◌, ℕ, IfOk};
+ghost use Rattle.std.specs.Prelude.{◌≤◌, ℕ, IfOk};
 ghost use Rattle.amr_time.specs.Time.{latest_read};
 ghost use Rattle.amr_events.specs.Actions.Acts.{act_of, by_number};
 ghost use Rattle.amr_events.specs.Actions.Events.{Act as act};

@@ -75,7 +75,7 @@ pub(crate) struct QuietGroups {
     budget: ScanBudget,
 }
 
-ghost use Rattle.amr_engine.specs.CachedQuiet.{times_in, quiet_times, Outlasts, IsTrueOf};
+ghost use Rattle.amr_engine.specs.CachedQuiet.{times_in, Outlasts, IsTrueOf};
 
 impl QuietGroups {
     /// Returns a cache of no group.

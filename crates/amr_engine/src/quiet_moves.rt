@@ -1,7 +1,7 @@
 //! Which of the moves from a state only set a group timer. The moves up to a moment are the first
 //! of those up to a later one, whatever the event is. So a session notes them at each position of
 //! its cursor, and makes them faster if it passes an event again or tries another one there.
-ghost use Rattle.std.specs.Prelude.{◌≡◌, false, [], ◌∷◌, ◌++◌, length, get_or, OnOk, OnErr};
+ghost use Rattle.std.specs.Prelude.{◌≡◌, false, [], get_or, OnOk, OnErr};
 ghost use Rattle.amr_engine.specs.QuietMoves.{with_move_noted};
 
 use std::alloc::{AllocError, Global};

@@ -19,8 +19,7 @@ use std::alloc::AllocError;
 pub(crate) fn reload(store: &mut Store, config: Config) -> Result<(), AllocError>
     ensures ok { OnOk result (store.new.state ≡ with_config store.old.state config) }
     ensures kept { before_open_record store.new ≡ before_open_record store.old }
-    ensures grown { OnOk result (GrownBy (reload_entries store.old.state store.new.state)
-        store.old store.new) }
+    ensures grown { OnOk result (GrownBy (reload_entries store.new.state) store.old store.new) }
 {
     let alerts = views::alerts(store)?;
     store.replace_config(config)?;

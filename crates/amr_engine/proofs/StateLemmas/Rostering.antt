@@ -6,7 +6,7 @@ use Rattle.std.specs.List.{All, AllByRecursion, IsDistinct, list_any, filter, fi
 use Rattle.std.specs.List.Sorted.{IsStrictlySortedBy}
 use Rattle.std.specs.declared.cmp.Ordering.{Ordering}
 use Rattle.std.specs.declared.cmp.Ordering.TheVariants.{Less, Equal, Greater}
-use Rattle.std.specs.Ordering.{nat_cmp, eq_by_cmp, is_eq, is_lt, ordering_then, ordering_reverse}
+use Rattle.std.specs.Ordering.{nat_cmp, eq_by_cmp, is_eq, ordering_then}
 use Rattle.std.specs.Cmp.{nat_cmp_total, tied_itself}
 use Rattle.std.specs.FinMap.{find, is_sorted}
 use Rattle.std.specs.FinMap.Entries.{below_all, is_some-find}
@@ -19,6 +19,8 @@ use Rattle.std.proofs.lemmas.Map.Keys.{IsDistinct-IsPermutation}
 use Rattle.std.proofs.lemmas.Option.{same_Some}
 use Rattle.amr_labels.specs.Labels.{LabelSet, label_set_cmp, label_set_cmp_total, label_set_cmp-IsAntisymmetric}
 use Rattle.amr_labels.specs.Map.{Map, get, set, empty, entries, get-set, get-empty, get-entries, entries-sorted}
+use Rattle.amr_labels.proofs.Pairs.{own_values}
+use Rattle.amr_labels.proofs.Sorted.{first, second, less}
 use Rattle.amr_config.specs.Stated.Config.{Config}
 use Rattle.amr_rules.specs.declared.alert.Alert.{Alert}
 use Rattle.amr_tables.specs.Places.{value_at}
@@ -61,19 +63,6 @@ other_of : (a b : Bool) → (a && b) ≡ true → b ≡ true
 other_of true b e = e
 other_of false b e = absurd (true≢false (sym e))
 
-less_is : (o : Ordering) → T (is_lt o) → o ≡ Less
-less_is Less p = refl
-less_is Equal p = absurd p
-less_is Greater p = absurd p
-
-first : (a b : Bool) → T (a && b) → T a
-first true b p = tt
-first false b p = p
-
-second : (a b : Bool) → T (a && b) → T b
-second true b p = p
-second false b p = absurd p
-
 tied_key : (k other : RouteLabels) → is_eq (route_labels_cmp other k) ≡ true → other ≡ k
 tied_key k other e = route_labels_cmp-IsAntisymmetric other k (equal_of _ e)
 
@@ -83,10 +72,6 @@ within_if None g count h = tt
 within_if (Some x) g count h = h
 
 -- ---- places and numbers
-
-pub keeps_numbered : (a b : Numbered RouteLabels Alert) → b.numbers ≡ a.numbers → (key : RouteLabels) → has_place route_labels_cmp b key ≡ has_place route_labels_cmp a key
-unfolding has_place
-keeps_numbered a b same key = ap (λ ns. is_some (find route_labels_cmp key ns)) same
 
 module _ {V : Type 0} (t : Numbered RouteLabels V) where
   pub place_number : (k : RouteLabels) → IsTrue (has_place route_labels_cmp t k) → (n : ℕ) × (number_of route_labels_cmp t k ≡ Some n)
@@ -236,20 +221,6 @@ module _ (config : Config) (a : Numbered RouteLabels Alert) (gs : Numbered Route
       same_group key None h = refl
       same_group key (Some x) h = let by = place_number gs (group_key config key) (h refl) in by.1 ∙ sym (kept_number gs hs k (next_number gs) new gets (group_key config key) by.0 by.1)
 
-  -- without members, any configuration may be in force
-  pub grouped_again : (after : Config) → map_of route_labels_cmp a ≡ empty → IsGrouped after a gs m
-  grouped_again after none = record {
-    numbered = is.numbered;
-    grouped = λ key n at. is.grouped key n at ∙ ap (group_number config gs key) (nobody key) ∙ sym (ap (group_number after gs key) (nobody key));
-    known = λ key h. absurd (true≢false (sym h ∙ ap is_some (nobody key)));
-    named = is.named;
-    room = is.room;
-    group_room = is.group_room;
-  }
-    where
-      nobody : (key : RouteLabels) → get (map_of route_labels_cmp a) key ≡ None
-      nobody key = ap (λ (s : Map route_labels_cmp Alert). get s key) none ∙ get-empty route_labels_cmp key
-
 pub grouped_first : (config : Config) (a : Numbered RouteLabels Alert) (gs : Numbered RouteLabels GroupTimer) (m : Grouped) → a.numbers ≡ [] → map_of route_labels_cmp a ≡ empty → gs.numbers ≡ [] → m.groups ≡ [] → IsGrouped config a gs m
 grouped_first config a gs m none no_members no_groups nothing = record {
   numbered = none_numbered route_labels_cmp_total route_labels_cmp-IsAntisymmetric a none no_members;
@@ -300,21 +271,6 @@ never : (a : Bool) → false ≡ (a && false)
 never true = refl
 never false = refl
 
--- each placement is found by its key, also where others are in front
-later : (e : RouteLabels × Alert) (es fs : List (RouteLabels × Alert)) → T (below_all route_labels_cmp e.0 fs) → AllByRecursion (λ f. find route_labels_cmp f.0 es ≡ Some f.1) fs → AllByRecursion (λ f. find route_labels_cmp f.0 (e ∷ es) ≡ Some f.1) fs
-later e es [] h found = tt
-later e es (f ∷ fs) h found = (
-  ap (λ r. cond (is_eq r) (Some e.1) (find route_labels_cmp f.0 es)) (route_labels_cmp_total.antisymm f.0 e.0 ∙ ap ordering_reverse (less_is _ (first _ _ h))) ∙ found.0,
-  later e es fs (second _ _ h) found.1,
-)
-
-own_alerts : (es : List (RouteLabels × Alert)) → T (is_sorted route_labels_cmp es) → AllByRecursion (λ e. find route_labels_cmp e.0 es ≡ Some e.1) es
-own_alerts [] h = tt
-own_alerts (e ∷ es) h = (
-  ap (λ r. cond (is_eq r) (Some e.1) (find route_labels_cmp e.0 es)) (tied_itself route_labels_cmp_total e.0),
-  later e es es (first _ _ h) (own_alerts es (second _ _ h)),
-)
-
 got : (m : Map route_labels_cmp Alert) (es : List (RouteLabels × Alert)) → AllByRecursion (λ e. find route_labels_cmp e.0 (entries m) ≡ Some e.1) es → AllByRecursion (λ e. get m e.0 ≡ Some e.1) es
 got m [] h = tt
 got m (e ∷ es) h = (get-entries m e.0 ∙ h.0, got m es h.1)
@@ -356,7 +312,7 @@ module _ (config : Config) (group : RouteLabels) where
   below_among k [] in_k h = tt
   below_among k (f ∷ fs) in_k h =
       elim (is_in f.0) as (λ b. is_in f.0 ≡ b → AllByRecursion (λ y. label_set_cmp k.labels y ≡ Less) (labels_of_members (map (λ placement. (placement.0.labels, placement.1)) (cond b (f ∷ filter (λ placement. is_in placement.0) fs) (filter (λ placement. is_in placement.0) fs))))) [
-        | true ↦ λ in_f. (by_labels in_f (less_is _ (first _ _ h)), below_among k fs in_k (second _ _ h))
+        | true ↦ λ in_f. (by_labels in_f (less _ (first _ _ h)), below_among k fs in_k (second _ _ h))
         | false ↦ λ _. below_among k fs in_k (second _ _ h)
       ] refl
     where
@@ -386,7 +342,7 @@ module _ (config : Config) (group : RouteLabels) where
       ] refl
 
   pub members_are : (m : Map route_labels_cmp Alert) → filter_map (with_alert m group.route) (labels_of_members (members_among config m group)) ≡ members_among config m group
-  members_are m = looked_up m (entries m) (got m (entries m) (own_alerts (entries m) (entries-sorted m)))
+  members_are m = looked_up m (entries m) (got m (entries m) (own_values route_labels_cmp_total (entries m) (entries-sorted m)))
 
   -- a list in order of the same label sets lists the members
   listed : (m : Map route_labels_cmp Alert) (ls : List LabelSet) → IsStrictlySortedBy label_set_cmp ls → ((l : LabelSet) → has label_set_cmp ls l ≡ (is_in (on_route group.route l) && is_some (get m (on_route group.route l)))) → ls ≡ labels_of_members (members_among config m group)

@@ -19,7 +19,7 @@ use Rattle.amr_rules.specs.Muting.{Alerts}
 use Rattle.amr_time.specs.Time.{Moment}
 use Rattle.amr_tables.proofs.Placing.{value_set, value_apart}
 use Rattle.amr_tables.specs.Places.{value_at}
-use Rattle.amr_tables.specs.Numbered.{Numbered, map_of, has_place, number_of, next_number, key_with, key_at, rank_of, KeepsPlaces, GetsNumber, IsNumber, IsNumbering}
+use Rattle.amr_tables.specs.Numbered.{Numbered, map_of, has_place, number_of, next_number, key_with, key_at, rank_of, GetsNumber, IsNumber, IsNumbering}
 use Rattle.amr_tables.specs.Earliest.{Earliest, moment_at, IsHeld, IsOrdered, IsEarliest}
 use Rattle.amr_tables.proofs.Firsts.{ordered_agrees}
 use Rattle.amr_tables.specs.Members.{has}
@@ -245,14 +245,6 @@ module _ {K V : Type 0} (R : K → K → Ordering) (t : Numbered K V) where
   has_number k placed none = not_both (is_some (number_of R t k)) ⊥ (ap is_some none) placed
 
 module _ {K V : Type 0} (R : K → K → Ordering) (t u : Numbered K V) where
-  pub keeps_places : u.numbers ≡ t.numbers → KeepsPlaces R t u
-  unfolding has_place
-  keeps_places numbers key h = subst (λ ns. IsTrue (is_some (find R key ns))) (sym numbers) h
-
-  pub placed_by : u.numbers ≡ t.numbers → (k : K) (n : ℕ) → number_of R t k ≡ Some n → IsTrue (has_place R u k)
-  unfolding has_place
-  placed_by numbers k n at = ap (λ ns. is_some (find R k ns)) numbers ∙ ap is_some at
-
   pub ranked : u.numbers ≡ t.numbers → (e : Earliest) → IsOrdered (rank_of R t) e → IsOrdered (rank_of R u) e
   ranked numbers e ordered = subst (λ ns. IsOrdered (λ a b. option_cmp R (key_with ns a) (key_with ns b)) e) (sym numbers) ordered
 

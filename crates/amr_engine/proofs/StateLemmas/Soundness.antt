@@ -2,7 +2,9 @@
 use Rattle.std.proofs.Common.{◌≡◌, ◌≤◌, ℕ, Bool, true, false, ◌||◌, List, [], ◌∷◌, ◌++◌, Option, Some, None, IsTrue, refl, subst, sym, ap, cond, is_some, ◌∙◌, length, length-append, arith}
 use Rattle.std.proofs.Math.Nat.{le_refl}
 use Rattle.std.specs.Prelude.{IfSome}
-use Rattle.std.specs.List.{AllByRecursion}
+use Rattle.std.specs.List.{flat_map}
+use Rattle.std.proofs.lemmas.List.{append-nil, append_assoc}
+use Rattle.std.proofs.lemmas.Grind.{flat_map-append}
 use Rattle.std.specs.declared.cmp.Ordering.{Ordering}
 use Rattle.std.specs.Ordering.{nat_cmp}
 use Rattle.std.specs.FinMap.{nat_cmp-IsAntisymmetric}
@@ -16,22 +18,21 @@ use Rattle.amr_engine.specs.declared.state.membership.Membership.{Membership}
 use Rattle.amr_engine.specs.declared.state.notification.LogKey.{LogKey}
 use Rattle.amr_engine.specs.declared.state.notification.GroupTimer.{GroupTimer}
 use Rattle.amr_engine.specs.declared.state.notification.Notification.{Notification}
-use Rattle.amr_config.specs.Stated.Config.{Config}
 use Rattle.amr_rules.specs.declared.alert.Alert.{Alert}
 use Rattle.amr_rules.specs.declared.silence.Silence.{Silence}
 use Rattle.amr_rules.specs.declared.dedup.LogEntry.{LogEntry}
 use Rattle.amr_engine.specs.declared.state.change.Change.{Change}
-use Rattle.amr_engine.specs.declared.state.change.Change.TheVariants.{OfMoment, OfConfig, OfAlert, OfSilence, OfMember, OfTimer, OfLog, OfNotes}
+use Rattle.amr_engine.specs.declared.state.change.Change.TheVariants.{OfMoment, OfRoster, OfAlert, OfSilence, OfMember, OfTimer, OfLog, OfNotes}
 use Rattle.amr_engine.specs.declared.state.tables.Tables.{Tables}
-use Rattle.amr_engine.specs.State.Records.{after_change, put_back, change_back, same_place, has_entry, IsNoNotification, NotesEntered}
+use Rattle.amr_engine.specs.State.Records.{after_change, put_back, same_place, has_entry, IsNoNotification, NotesEntered}
 use Rattle.amr_config.specs.RouteLabels.{route_labels_cmp, route_labels_cmp-IsAntisymmetric}
-use Rattle.amr_engine.specs.State.State.{State, member_on_route, log_key_cmp, log_key_cmp-IsAntisymmetric}
-use Rattle.amr_engine.specs.State.Fitting.{FitsOne, Fits, IsAllowed, is_config, since_config}
+use Rattle.amr_engine.specs.State.State.{State, member_on_route, group_key, log_key_cmp, log_key_cmp-IsAntisymmetric}
+use Rattle.amr_engine.specs.State.Fitting.{FitsOne, IsAllowed}
 use Rattle.amr_engine.specs.State.Kept.{before_open_record}
+use Rattle.amr_engine.specs.State.Rostered.{Rostered}
 use Rattle.amr_engine.specs.declared.state.store.Store.TheInside.{Inside}
-use Rattle.amr_engine.specs.State.Stored.{shown_by, state_of, kept_of, entries_of, IsSound, AreSound, IsPlaceOf, IsEntered, MorePlaces, SameValues, is_marked_at, IsUnmarked, NoNewMark, NewMarkAt, IsKept}
-use Rattle.amr_engine.proofs.StateLemmas.Undoing.{unlike, put_back-change, put_back-push, put_back-entered, put_back-appended, covered, covered_notification, notes_entered-more, notes_entered-push, has_entry-push, has_entry-last, same_undone}
-use Rattle.amr_engine.proofs.StateLemmas.Fitting.{AreAlike, joined, fits-alike, fits-pushed, fits-pop, fits-rest, fits-covered, since_config-push, has_entry-since, joined-closed, joined-push}
+use Rattle.amr_engine.specs.State.Stored.{shown_by, state_of, kept_of, entries_of, with_roster, roster_back, change_back, IsSound, AreSound, IsPlaceOf, IsEntered, MorePlaces, SameValues, is_marked_at, IsUnmarked, IsRoomier, NoNewMark, NewMarkAt, IsKept}
+use Rattle.amr_engine.proofs.StateLemmas.Undoing.{unlike, or_left, put_back-push, put_back-entered, put_back-appended, covered, covered_notification, notes_entered-more, notes_entered-push, has_entry-push, has_entry-last, same_undone}
 
 -- what was found is what there is
 pub found : {A : Type 0} (x o : Option A) → x ≡ o → IfSome o (λ a. x ≡ Some a)
@@ -42,38 +43,75 @@ found x (Some a) e = e
 
 sound-more : (a b : Tables) → MorePlaces a b → (e : Change) → IsSound a e → IsSound b e
 sound-more a b more (OfMoment moment) h = h
-sound-more a b more (OfConfig config) h = h
+sound-more a b more (OfRoster roster) h = h
 sound-more a b more (OfAlert labels alert) h = more.alerts labels h
 sound-more a b more (OfSilence id silence) h = more.silences id h
-sound-more a b more (OfMember member alert) h = (more.placements (member_on_route member) h.0, more.timers member.group h.1)
+sound-more a b more (OfMember member alert) h =
+    (more.placements (member_on_route member) h.0, more.timers member.group h.1, h.2 ∙ ap (λ config. group_key config (member_on_route member)) (sym more.config))
 sound-more a b more (OfTimer group timer) h = more.timers group h
 sound-more a b more (OfLog key entry) h = more.log key h
 sound-more a b more (OfNotes count) h = h
 
-pub all-more : (a b : Tables) → MorePlaces a b → (es : List Change) → AreSound a es → AreSound b es
-all-more a b more [] h = h
-all-more a b more (e ∷ es) h = (sound-more a b more e h.0, all-more a b more es h.1)
+with_roster-more : (a b : Tables) → MorePlaces a b → (e : Change) → MorePlaces (with_roster a e) (with_roster b e)
+with_roster-more a b more (OfRoster roster) = record { config = refl; alerts = more.alerts; silences = more.silences; placements = λ k h. h; timers = λ k h. h; log = more.log }
+with_roster-more a b more e = more
 
-closed-more : (a b : Tables) → MorePlaces a b → (rs : List (List Change)) → AllByRecursion (AreSound a) rs → AllByRecursion (AreSound b) rs
-closed-more a b more [] h = h
-closed-more a b more (r ∷ rs) h = (all-more a b more r h.0, closed-more a b more rs h.1)
+roster_back-more : (es : List Change) (a b : Tables) → MorePlaces a b → MorePlaces (roster_back es a) (roster_back es b)
+unfolding roster_back
+roster_back-more [] a b more = more
+roster_back-more (e ∷ es) a b more = with_roster-more (roster_back es a) (roster_back es b) (roster_back-more es a b more) e
 
-pub all-push : {A : Type 0} (P : A → Type 0) (xs : List A) (x : A) → AllByRecursion P xs → P x → AllByRecursion P (xs ++ x ∷ [])
-all-push P [] x h p = (p, tt)
-all-push P (y ∷ xs) x h p = (h.0, all-push P xs x h.1 p)
+all-more : (es : List Change) (a b : Tables) → MorePlaces a b → AreSound es a → AreSound es b
+unfolding AreSound
+all-more [] a b more h = h
+all-more (e ∷ es) a b more h = (all-more es a b more h.0, sound-more (roster_back es a) (roster_back es b) (roster_back-more es a b more) e h.1)
 
-pub all-pop : {A : Type 0} (P : A → Type 0) (xs : List A) (x : A) → AllByRecursion P (xs ++ x ∷ []) → AllByRecursion P xs × P x
-all-pop P [] x h = (tt, h.0)
-all-pop P (y ∷ xs) x h = let rest = all-pop P xs x h.1 in ((h.0, rest.0), rest.1)
+roster_back-push : (es : List Change) (e : Change) (t : Tables) → roster_back (es ++ e ∷ []) t ≡ roster_back es (with_roster t e)
+unfolding roster_back
+roster_back-push [] e t = refl
+roster_back-push (x ∷ es) e t = ap (λ u. with_roster u x) (roster_back-push es e t)
+
+sound-push : (es : List Change) (e : Change) (t : Tables) → AreSound es (with_roster t e) → IsSound t e → AreSound (es ++ e ∷ []) t
+unfolding AreSound roster_back
+sound-push [] e t before last = (tt, last)
+sound-push (x ∷ es) e t before last = (sound-push es e t before.0 last, subst (λ u. IsSound u x) (sym (roster_back-push es e t)) before.1)
+
+sound-pop : (es : List Change) (e : Change) (t : Tables) → AreSound (es ++ e ∷ []) t → AreSound es (with_roster t e) × IsSound t e
+unfolding AreSound roster_back
+sound-pop [] e t h = (tt, h.1)
+sound-pop (x ∷ es) e t h = let rest = sound-pop es e t h.0 in ((rest.0, subst (λ u. IsSound u x) (roster_back-push es e t) h.1), rest.1)
+
+-- the first entries are dropped
+sound-rest : (before es : List Change) (t : Tables) → AreSound (before ++ es) t → AreSound es t
+unfolding AreSound
+sound-rest [] es t h = h
+sound-rest (x ∷ before) es t h = sound-rest before es t h.0
+
+pub sound-none : (es : List Change) (t : Tables) → es ≡ [] → AreSound es t
+unfolding AreSound
+sound-none es t none = subst (λ l. AreSound l t) (sym none) tt
+
+-- ---- the entries of all records
+
+abbrev pub joined : List (List Change) → List Change
+joined = flat_map (λ closed. closed)
+
+-- the open record is closed
+joined-closed : (rs : List (List Change)) (r : List Change) → joined (rs ++ r ∷ []) ++ [] ≡ joined rs ++ r
+joined-closed rs r = append-nil (joined (rs ++ r ∷ [])) ∙ flat_map-append (λ closed. closed) rs (r ∷ []) ∙ ap (λ last. joined rs ++ last) (append-nil r)
+
+-- an entry is appended to the open one
+joined-push : (rs : List (List Change)) (r : List Change) (e : Change) → (joined rs ++ r) ++ e ∷ [] ≡ joined rs ++ (r ++ e ∷ [])
+joined-push rs r e = append_assoc (joined rs) r (e ∷ [])
 
 -- ---- marks
 
 -- what holds at each kind of place holds at all
-pub by_place : (P : Change → Type 0) → ((m : ℕ) → P (OfMoment m)) → ((c : Config) → P (OfConfig c)) → ((k : LabelSet) (v : Option Alert) → P (OfAlert k v))
+pub by_place : (P : Change → Type 0) → ((m : ℕ) → P (OfMoment m)) → ((r : Rostered) → P (OfRoster r)) → ((k : LabelSet) (v : Option Alert) → P (OfAlert k v))
     → ((k : ℕ) (v : Option Silence) → P (OfSilence k v)) → ((k : Membership) (v : Option Alert) → P (OfMember k v)) → ((k : RouteLabels) (v : Option GroupTimer) → P (OfTimer k v))
     → ((k : LogKey) (v : Option LogEntry) → P (OfLog k v)) → ((n : ℕ) → P (OfNotes n)) → (place : Change) → P place
 by_place P m c a s p k l n (OfMoment x) = m x
-by_place P m c a s p k l n (OfConfig x) = c x
+by_place P m c a s p k l n (OfRoster x) = c x
 by_place P m c a s p k l n (OfAlert x v) = a x v
 by_place P m c a s p k l n (OfSilence x v) = s x v
 by_place P m c a s p k l n (OfMember x v) = p x v
@@ -89,183 +127,111 @@ not_so : (b : Bool) (P : Type 0) → b ≡ false → IsTrue b → P
 not_so true P e h = cc
 not_so false P e h = cc
 
--- ---- the entries after a change
-
--- the same entries, with the same configuration and members
-pub fits_alike : (a b : Inside) → b.journal.closed ≡ a.journal.closed → b.journal.current ≡ a.journal.current → AreAlike (state_of a) (state_of b) → Fits (entries_of a) (state_of a) → Fits (entries_of b) (state_of b)
-fits_alike a b closed current alike fits =
-    subst (λ es. Fits es (state_of b)) (λ i. joined (sym closed i) ++ sym current i) (fits-alike (entries_of a) (state_of a) (state_of b) alike fits)
-
--- a member has changed that is entered
-pub fits_covered : (a b : Inside) (member : Membership) (alert : Option Alert) → IsKept a → IsTrue (is_marked_at a.tables (OfMember member alert)) → state_of b ≡ after_change (state_of a) (OfMember member alert)
-    → b.journal.closed ≡ a.journal.closed → b.journal.current ≡ a.journal.current → Fits (entries_of b) (state_of b)
-fits_covered a b member alert kept marked state closed current =
-    let change : Change = OfMember member alert in
-    let fits : Fits (entries_of a) (after_change (state_of a) change) = fits-covered (joined a.journal.closed) a.journal.current member alert (state_of a) (kept.marked change marked) kept.fits in
-    subst (λ es. Fits es (state_of b)) (λ i. joined (sym closed i) ++ sym current i) (subst (Fits (entries_of a)) (sym state) fits)
-
--- an entry more, which gives what was there
-fits_pushed : (a b : Inside) (e : Change) → b.journal.closed ≡ a.journal.closed → b.journal.current ≡ a.journal.current ++ e ∷ [] → AreAlike (state_of a) (after_change (state_of b) e) → FitsOne (state_of b) e
-    → Fits (entries_of a) (state_of a) → Fits (entries_of b) (state_of b)
-fits_pushed a b e closed current alike one fits =
-    subst (λ es. Fits es (state_of b)) (joined-push a.journal.closed a.journal.current e ∙ (λ i. joined (sym closed i) ++ sym current i))
-    (fits-pushed (entries_of a) e (state_of a) (state_of b) alike one fits)
-
--- the last entry, and those before it
-fits_last : (a : Inside) (es : List Change) (e : Change) → a.journal.current ≡ es ++ e ∷ [] → Fits (entries_of a) (state_of a) → Fits (joined a.journal.closed ++ es) (after_change (state_of a) e) × FitsOne (state_of a) e
-fits_last a es e current fits =
-    fits-pop (joined a.journal.closed ++ es) e (state_of a)
-    (subst (λ es. Fits es (state_of a)) (ap (λ last. joined a.journal.closed ++ last) current ∙ sym (joined-push a.journal.closed es e)) fits)
-
 -- ---- the invariant after a change
 
 -- the open record is as it was
-kept_still : (a b : Inside) → IsKept a → MorePlaces a.tables b.tables → b.tables.moment ≤ latest_read → b.journal.closed ≡ a.journal.closed → b.journal.current ≡ a.journal.current
-    → ((place : Change) → NoNewMark a.tables b.tables place) → length a.tables.notes.items ≤ length b.tables.notes.items → Fits (entries_of b) (state_of b) → IsKept b
-kept_still a b kept more moment closed current marks notes fits = record {
+pub kept_still : (a b : Inside) → IsKept a → MorePlaces a.tables b.tables → b.tables.moment ≤ latest_read → b.journal.closed ≡ a.journal.closed → b.journal.current ≡ a.journal.current
+    → ((place : Change) → NoNewMark a.tables b.tables place) → length a.tables.notes.items ≤ length b.tables.notes.items → IsKept b
+kept_still a b kept more moment closed current marks notes = record {
   moment = moment;
-  current = subst (AreSound b.tables) (sym current) (all-more a.tables b.tables more a.journal.current kept.current);
-  closed = subst (AllByRecursion (AreSound b.tables)) (sym closed) (closed-more a.tables b.tables more a.journal.closed kept.closed);
-  marked = λ place h. subst (λ es. IsTrue (has_entry (since_config es) place)) (sym current) (kept.marked place (marks place h));
+  sound = subst (λ es. AreSound es b.tables) (λ i. joined (sym closed i) ++ sym current i) (all-more (entries_of a) a.tables b.tables more kept.sound);
+  marked = λ place h. subst (λ es. IsTrue (has_entry es place)) (sym current) (kept.marked place (marks place h));
   notes = λ h. subst (λ es. NotesEntered es (length b.tables.notes.items)) (sym current) (notes_entered-more a.journal.current (length a.tables.notes.items) (length b.tables.notes.items) notes (kept.notes (marks (OfNotes 0) h)));
-  fits = fits;
 }
 
--- so are the configuration and the members
-pub kept_same : (a b : Inside) → IsKept a → MorePlaces a.tables b.tables → b.tables.moment ≤ latest_read → b.journal.closed ≡ a.journal.closed → b.journal.current ≡ a.journal.current
-    → ((place : Change) → NoNewMark a.tables b.tables place) → length a.tables.notes.items ≤ length b.tables.notes.items → AreAlike (state_of a) (state_of b) → IsKept b
-kept_same a b kept more moment closed current marks notes alike = kept_still a b kept more moment closed current marks notes (fits_alike a b closed current alike kept.fits)
-
 -- so are the moment and the notifications
-pub kept_grown : (a b : Inside) → IsKept a → MorePlaces a.tables b.tables → b.tables.moment ≡ a.tables.moment → b.journal.closed ≡ a.journal.closed → b.journal.current ≡ a.journal.current
-    → ((place : Change) → NoNewMark a.tables b.tables place) → b.tables.notes.items ≡ a.tables.notes.items → Fits (entries_of b) (state_of b) → IsKept b
+kept_grown : (a b : Inside) → IsKept a → MorePlaces a.tables b.tables → b.tables.moment ≡ a.tables.moment → b.journal.closed ≡ a.journal.closed → b.journal.current ≡ a.journal.current
+    → ((place : Change) → NoNewMark a.tables b.tables place) → b.tables.notes.items ≡ a.tables.notes.items → IsKept b
 kept_grown a b kept more moment closed current marks notes =
     kept_still a b kept more (subst (λ m. m ≤ latest_read) (sym moment) kept.moment) closed current marks (subst (λ items. length a.tables.notes.items ≤ length items) (sym notes) (le_refl (length a.tables.notes.items)))
 
 -- an entry is pushed
-pub kept_pushed : (a b : Inside) (e : Change) → IsKept a → MorePlaces a.tables b.tables → b.tables.moment ≤ latest_read → b.journal.closed ≡ a.journal.closed → b.journal.current ≡ a.journal.current ++ e ∷ []
-    → IsSound b.tables e → ((place : Change) → NewMarkAt e a.tables b.tables place) → (IsTrue b.tables.are_notes_entered → NotesEntered (a.journal.current ++ e ∷ []) (length b.tables.notes.items))
-    → is_config e ≡ false → AreAlike (state_of a) (after_change (state_of b) e) → FitsOne (state_of b) e → IsKept b
-kept_pushed a b e kept more moment closed current sound marks notes no_config alike one =
-    let since : since_config b.journal.current ≡ since_config a.journal.current ++ e ∷ [] = ap since_config current ∙ since_config-push a.journal.current e no_config in
-    record {
-      moment = moment;
-      current = subst (AreSound b.tables) (sym current) (all-push (IsSound b.tables) a.journal.current e (all-more a.tables b.tables more a.journal.current kept.current) sound);
-      closed = subst (AllByRecursion (AreSound b.tables)) (sym closed) (closed-more a.tables b.tables more a.journal.closed kept.closed);
-      marked = λ place h. subst (λ es. IsTrue (has_entry es place)) (sym since) (
-          either (same_place place e) (is_marked_at a.tables place) _ (has_entry-last (since_config a.journal.current) e place)
-          (λ before. has_entry-push (since_config a.journal.current) e place (kept.marked place before)) (marks place h));
-      notes = λ h. subst (λ es. NotesEntered es (length b.tables.notes.items)) (sym current) (notes h);
-      fits = fits_pushed a b e closed current alike one kept.fits;
-    }
-
--- one that is not of the notifications
-pub kept_entered : (a b : Inside) (e : Change) → IsKept a → MorePlaces a.tables b.tables → b.tables.moment ≤ latest_read → b.journal.closed ≡ a.journal.closed → b.journal.current ≡ a.journal.current ++ e ∷ []
-    → IsSound b.tables e → ((place : Change) → NewMarkAt e a.tables b.tables place) → b.tables.are_notes_entered ≡ a.tables.are_notes_entered → b.tables.notes.items ≡ a.tables.notes.items
-    → is_config e ≡ false → AreAlike (state_of a) (after_change (state_of b) e) → FitsOne (state_of b) e → IsKept b
-kept_entered a b e kept more moment closed current sound marks flag notes =
-    kept_pushed a b e kept more moment closed current sound marks (λ h. subst (λ items. NotesEntered (a.journal.current ++ e ∷ []) (length items)) (sym notes) (notes_entered-push a.journal.current e (length a.tables.notes.items) (kept.notes (subst IsTrue flag h))))
-
--- no place is marked
-pub kept_unmarked : (b : Inside) → b.tables.moment ≤ latest_read → AreSound b.tables b.journal.current → AllByRecursion (AreSound b.tables) b.journal.closed → IsUnmarked b.tables → Fits (entries_of b) (state_of b) → IsKept b
-kept_unmarked b moment current closed unmarked fits = record {
+pub kept_pushed : (a b : Inside) (e : Change) → IsKept a → MorePlaces a.tables (with_roster b.tables e) → b.tables.moment ≤ latest_read → b.journal.closed ≡ a.journal.closed → b.journal.current ≡ a.journal.current ++ e ∷ []
+    → IsSound b.tables e → ((place : Change) → NewMarkAt e a.tables b.tables place) → (IsTrue b.tables.are_notes_entered → NotesEntered (a.journal.current ++ e ∷ []) (length b.tables.notes.items)) → IsKept b
+kept_pushed a b e kept more moment closed current sound marks notes = record {
   moment = moment;
-  current = current;
-  closed = closed;
-  marked = λ place h. not_so (is_marked_at b.tables place) _ (unmarked place) h;
-  notes = λ h. not_so b.tables.are_notes_entered _ (unmarked (OfNotes 0)) h;
-  fits = fits;
+  sound = subst (λ es. AreSound es b.tables) (joined-push a.journal.closed a.journal.current e ∙ (λ i. joined (sym closed i) ++ sym current i))
+      (sound-push (entries_of a) e b.tables (all-more (entries_of a) a.tables (with_roster b.tables e) more kept.sound) sound);
+  marked = λ place h. subst (λ es. IsTrue (has_entry es place)) (sym current) (
+      either (same_place place e) (is_marked_at a.tables place) _ (has_entry-last a.journal.current e place)
+      (λ before. has_entry-push a.journal.current e place (kept.marked place before)) (marks place h));
+  notes = λ h. subst (λ es. NotesEntered es (length b.tables.notes.items)) (sym current) (notes h);
 }
 
--- another configuration is in force, and entered
-pub kept_reconfigured : (a b : Inside) (was : Config) → IsKept a → MorePlaces a.tables b.tables → IsUnmarked b.tables → b.tables.moment ≡ a.tables.moment → b.journal.closed ≡ a.journal.closed
-    → b.journal.current ≡ a.journal.current ++ OfConfig was ∷ [] → AreAlike (state_of a) (after_change (state_of b) (OfConfig was)) → FitsOne (state_of b) (OfConfig was) → IsKept b
-kept_reconfigured a b was kept more unmarked moment closed current alike one =
-    kept_unmarked b (subst (λ m. m ≤ latest_read) (sym moment) kept.moment)
-    (subst (AreSound b.tables) (sym current) (all-push (IsSound b.tables) a.journal.current (OfConfig was) (all-more a.tables b.tables more a.journal.current kept.current) tt))
-    (subst (AllByRecursion (AreSound b.tables)) (sym closed) (closed-more a.tables b.tables more a.journal.closed kept.closed))
-    unmarked (fits_pushed a b (OfConfig was) closed current alike one kept.fits)
-
-pub all-none : {A : Type 0} (P : A → Type 0) (xs : List A) → xs ≡ [] → AllByRecursion P xs
-all-none P xs e = subst (AllByRecursion P) (sym e) tt
+-- no place is marked
+pub kept_unmarked : (b : Inside) → b.tables.moment ≤ latest_read → AreSound (entries_of b) b.tables → IsUnmarked b.tables → IsKept b
+kept_unmarked b moment sound unmarked = record {
+  moment = moment;
+  sound = sound;
+  marked = λ place h. not_so (is_marked_at b.tables place) _ (unmarked place) h;
+  notes = λ h. not_so b.tables.are_notes_entered _ (unmarked (OfNotes 0)) h;
+}
 
 -- the open record is closed
-pub kept_closed : (a b : Inside) → IsKept a → MorePlaces a.tables b.tables → IsUnmarked b.tables → b.tables.moment ≡ a.tables.moment → b.journal.closed ≡ a.journal.closed ++ a.journal.current ∷ [] → b.journal.current ≡ []
-    → AreAlike (state_of a) (state_of b) → IsKept b
-kept_closed a b kept more unmarked moment closed current alike =
-    kept_unmarked b (subst (λ m. m ≤ latest_read) (sym moment) kept.moment) (all-none (IsSound b.tables) b.journal.current current)
-    (subst (AllByRecursion (AreSound b.tables)) (sym closed) (
-    all-push (AreSound b.tables) a.journal.closed a.journal.current (closed-more a.tables b.tables more a.journal.closed kept.closed) (all-more a.tables b.tables more a.journal.current kept.current)))
-    unmarked
-    (subst (λ es. Fits es (state_of b)) (sym ((λ i. joined (closed i) ++ current i) ∙ joined-closed a.journal.closed a.journal.current))
-    (fits-alike (entries_of a) (state_of a) (state_of b) alike kept.fits))
+pub kept_closed : (a b : Inside) → IsKept a → MorePlaces a.tables b.tables → IsUnmarked b.tables → b.tables.moment ≡ a.tables.moment → b.journal.closed ≡ a.journal.closed ++ a.journal.current ∷ [] → b.journal.current ≡ [] → IsKept b
+kept_closed a b kept more unmarked moment closed current =
+    kept_unmarked b (subst (λ m. m ≤ latest_read) (sym moment) kept.moment)
+    (subst (λ es. AreSound es b.tables) (sym ((λ i. joined (closed i) ++ current i) ∙ joined-closed a.journal.closed a.journal.current))
+    (all-more (entries_of a) a.tables b.tables more kept.sound)) unmarked
 
 -- the last record is the open one again
-pub kept_reopened : (a b : Inside) → IsKept a → MorePlaces a.tables b.tables → IsUnmarked b.tables → b.tables.moment ≡ a.tables.moment → a.journal.closed ≡ b.journal.closed ++ b.journal.current ∷ [] → a.journal.current ≡ []
-    → AreAlike (state_of a) (state_of b) → IsKept b
-kept_reopened a b kept more unmarked moment closed current alike =
-    let parts = all-pop (AreSound b.tables) b.journal.closed b.journal.current (subst (AllByRecursion (AreSound b.tables)) closed (closed-more a.tables b.tables more a.journal.closed kept.closed)) in
-    kept_unmarked b (subst (λ m. m ≤ latest_read) (sym moment) kept.moment) parts.1 parts.0 unmarked
-    (subst (λ es. Fits es (state_of b)) ((λ i. joined (closed i) ++ current i) ∙ joined-closed b.journal.closed b.journal.current)
-    (fits-alike (entries_of a) (state_of a) (state_of b) alike kept.fits))
+pub kept_reopened : (a b : Inside) → IsKept a → MorePlaces a.tables b.tables → IsUnmarked b.tables → b.tables.moment ≡ a.tables.moment → a.journal.closed ≡ b.journal.closed ++ b.journal.current ∷ [] → a.journal.current ≡ [] → IsKept b
+kept_reopened a b kept more unmarked moment closed current =
+    kept_unmarked b (subst (λ m. m ≤ latest_read) (sym moment) kept.moment)
+    (subst (λ es. AreSound es b.tables) ((λ i. joined (closed i) ++ current i) ∙ joined-closed b.journal.closed b.journal.current)
+    (all-more (entries_of a) a.tables b.tables more kept.sound)) unmarked
 
--- the last entry of the open record can be put back
+-- the last entry of the open record, and those before it
+last_entry : (a : Inside) (es : List Change) (e : Change) → IsKept a → a.journal.current ≡ es ++ e ∷ [] → AreSound (joined a.journal.closed ++ es) (with_roster a.tables e) × IsSound a.tables e
+last_entry a es e kept is =
+    sound-pop (joined a.journal.closed ++ es) e a.tables
+    (subst (λ l. AreSound l a.tables) (ap (λ last. joined a.journal.closed ++ last) is ∙ sym (joined-push a.journal.closed es e)) kept.sound)
+
+-- it can be put back
 pub last_is_sound : (a : Inside) (es : List Change) (e : Change) → IsKept a → a.journal.current ≡ es ++ e ∷ [] → IsSound a.tables e
-last_is_sound a es e kept is = (all-pop (IsSound a.tables) es e (subst (AreSound a.tables) is kept.current)).1
-
--- a configuration is put back while no group has a member, and a member in its group
-pub last_fits : (a : Inside) (es : List Change) (e : Change) → IsKept a → a.journal.current ≡ es ++ e ∷ [] → FitsOne (state_of a) e
-last_fits a es e kept is = (fits_last a es e is kept.fits).1
+last_is_sound a es e kept is = (last_entry a es e kept is).1
 
 -- it is taken out
-pub kept_popped : (a b : Inside) (e : Change) → IsKept a → MorePlaces a.tables b.tables → IsUnmarked b.tables → b.tables.moment ≤ latest_read → b.journal.closed ≡ a.journal.closed → a.journal.current ≡ b.journal.current ++ e ∷ []
-    → AreAlike (after_change (state_of a) e) (state_of b) → IsKept b
-kept_popped a b e kept more unmarked moment closed current alike =
+kept_popped : (a b : Inside) (e : Change) → IsKept a → MorePlaces (with_roster a.tables e) b.tables → IsUnmarked b.tables → b.tables.moment ≤ latest_read → b.journal.closed ≡ a.journal.closed → a.journal.current ≡ b.journal.current ++ e ∷ [] → IsKept b
+kept_popped a b e kept more unmarked moment closed current =
     let rest : List Change = joined a.journal.closed ++ b.journal.current in
-    kept_unmarked b moment (all-more a.tables b.tables more b.journal.current (all-pop (IsSound a.tables) b.journal.current e (subst (AreSound a.tables) current kept.current)).0)
-    (subst (AllByRecursion (AreSound b.tables)) (sym closed) (closed-more a.tables b.tables more a.journal.closed kept.closed)) unmarked
-    (subst (λ es. Fits es (state_of b)) (ap (λ rs. joined rs ++ b.journal.current) (sym closed))
-    (fits-alike rest (after_change (state_of a) e) (state_of b) alike (fits_last a b.journal.current e current kept.fits).0))
+    kept_unmarked b moment
+    (subst (λ es. AreSound es b.tables) (ap (λ rs. joined rs ++ b.journal.current) (sym closed))
+    (all-more rest (with_roster a.tables e) b.tables more (last_entry a b.journal.current e kept current).0)) unmarked
 
 -- all records are dropped
-pub kept_forgotten : (a b : Inside) → IsKept a → b.tables ≡ a.tables → b.tables.moment ≡ a.tables.moment → b.journal.closed ≡ [] → b.journal.current ≡ a.journal.current → b.tables.notes.items ≡ a.tables.notes.items
-    → AreAlike (state_of a) (state_of b) → IsKept b
-kept_forgotten a b kept tables moment closed current notes alike = record {
-  moment = subst (λ m. m ≤ latest_read) (sym moment) kept.moment;
-  current = subst (λ t. AreSound t b.journal.current) (sym tables) (subst (AreSound a.tables) (sym current) kept.current);
-  closed = all-none (AreSound b.tables) b.journal.closed closed;
-  marked = λ place h. subst (λ es. IsTrue (has_entry (since_config es) place)) (sym current) (kept.marked place (subst (λ t. IsTrue (is_marked_at t place)) tables h));
-  notes = λ h. subst (λ es. NotesEntered es (length b.tables.notes.items)) (sym current) (subst (λ items. NotesEntered a.journal.current (length items)) (sym notes) (kept.notes (subst (λ (t : Tables). IsTrue t.are_notes_entered) tables h)));
-  fits = subst (λ es. Fits es (state_of b)) (λ i. joined (sym closed i) ++ sym current i) (
-      fits-rest (joined a.journal.closed) a.journal.current (state_of b) (fits-alike (entries_of a) (state_of a) (state_of b) alike kept.fits));
+pub kept_forgotten : (a : Inside) (j : Records Change) → IsKept a → j.closed ≡ [] → j.current ≡ a.journal.current → IsKept (record a { journal = j })
+kept_forgotten a j kept closed current = record {
+  moment = kept.moment;
+  sound = subst (λ es. AreSound es a.tables) (λ i. joined (sym closed i) ++ sym current i) (sound-rest (joined a.journal.closed) a.journal.current a.tables kept.sound);
+  marked = λ place h. subst (λ es. IsTrue (has_entry es place)) (sym current) (kept.marked place h);
+  notes = λ h. subst (λ es. NotesEntered es (length a.tables.notes.items)) (sym current) (kept.notes h);
 }
 
 -- without records, the notifications may be any
 pub kept_silent : (a b : Inside) → IsKept a → a.journal.current ≡ [] → a.journal.closed ≡ [] → IsKept (record a { tables = record a.tables { notes = b.tables.notes } })
-unfolding NotesEntered Fits
+unfolding NotesEntered
 kept_silent a b kept current closed = record {
   moment = kept.moment;
-  current = kept.current;
-  closed = kept.closed;
+  sound = sound-none (entries_of a) (record a.tables { notes = b.tables.notes }) (λ i. joined (closed i) ++ current i);
   marked = kept.marked;
   notes = λ h. absurd (subst (λ es. NotesEntered es (length a.tables.notes.items)) current (kept.notes h));
-  fits = subst (λ es. Fits es (state_of (record a { tables = record a.tables { notes = b.tables.notes } }))) (λ i. joined (sym closed i) ++ sym current i) tt;
 }
 
 -- ---- what the open record gives by being put back, after a change
 
 -- a place was changed, and its entry pushed
-pub undone_pushed : (a b : Inside) (change e : Change) → IsNoNotification change → state_of b ≡ after_change (state_of a) change → e ≡ change_back (state_of a) change
+pub undone_pushed : (a b : Inside) (change e : Change) → IsNoNotification change → state_of b ≡ after_change (state_of a) change → e ≡ change_back a.tables change
     → b.journal.current ≡ a.journal.current ++ e ∷ [] → b.journal.closed ≡ a.journal.closed → b.journal.record_room ≡ a.journal.record_room → before_open_record (kept_of b) ≡ before_open_record (kept_of a)
 undone_pushed a b change e place state entry current closed room =
     same_undone (kept_of b) (kept_of a)
-    ((λ i. put_back (current i) (state i)) ∙ ap (λ x. put_back (a.journal.current ++ x ∷ []) (after_change (state_of a) change)) entry ∙ put_back-entered a.journal.current (state_of a) change place) closed room
+    ((λ i. put_back (current i) (state i)) ∙ ap (λ x. put_back (a.journal.current ++ x ∷ []) (after_change (state_of a) change)) entry ∙ put_back-entered a.journal.current a.tables change place) closed room
 
 -- a place was changed that has an entry
 pub undone_covered : (a b : Inside) (change : Change) → IsKept a → IsNoNotification change → IsTrue (is_marked_at a.tables change) → state_of b ≡ after_change (state_of a) change
     → b.journal.current ≡ a.journal.current → b.journal.closed ≡ a.journal.closed → b.journal.record_room ≡ a.journal.record_room → before_open_record (kept_of b) ≡ before_open_record (kept_of a)
 undone_covered a b change kept place marked state current closed room =
-    same_undone (kept_of b) (kept_of a) ((λ i. put_back (current i) (state i)) ∙ covered a.journal.current change (state_of a) place (has_entry-since a.journal.current change (kept.marked change marked))) closed room
+    same_undone (kept_of b) (kept_of a) ((λ i. put_back (current i) (state i)) ∙ covered a.journal.current change (state_of a) place (kept.marked change marked)) closed room
 
 -- the first notification of a record was appended, and their number before entered
 pub undone_appended : (a b : Inside) (notification : Notification) (count : ℕ) → state_of b ≡ record (state_of a) { notes = a.tables.notes.items ++ notification ∷ [] } → count ≡ length a.tables.notes.items
@@ -312,6 +278,7 @@ same_state a b same = λ i. record {
 
 pub more_still : (a b c : Tables) → MorePlaces a b → MorePlaces b c → MorePlaces a c
 more_still a b c one two = record {
+  config = two.config ∙ one.config;
   alerts = λ k h. two.alerts k (one.alerts k h);
   silences = λ k h. two.silences k (one.silences k h);
   placements = λ k h. two.placements k (one.placements k h);
@@ -323,7 +290,7 @@ more_still a b c one two = record {
 
 pub fits_one : (s : State) (e : Change) → IsAllowed s e → FitsOne s e
 fits_one s (OfMoment moment) h = tt
-fits_one s (OfConfig config) h = absurd h
+fits_one s (OfRoster roster) h = tt
 fits_one s (OfAlert labels alert) h = tt
 fits_one s (OfSilence id silence) h = tt
 fits_one s (OfMember member alert) h = h
@@ -333,7 +300,7 @@ fits_one s (OfNotes count) h = tt
 
 pub no_notes : (s : State) (e : Change) → IsAllowed s e → IsNoNotification e
 no_notes s (OfMoment moment) h = tt
-no_notes s (OfConfig config) h = tt
+no_notes s (OfRoster roster) h = tt
 no_notes s (OfAlert labels alert) h = tt
 no_notes s (OfSilence id silence) h = tt
 no_notes s (OfMember member alert) h = tt
@@ -341,57 +308,62 @@ no_notes s (OfTimer group timer) h = tt
 no_notes s (OfLog key entry) h = tt
 no_notes s (OfNotes count) h = h
 
--- what leads back is no change of the configuration
-no_config : (s : State) (e : Change) → IsAllowed s e → is_config (change_back s e) ≡ false
-no_config s (OfMoment moment) h = refl
-no_config s (OfConfig config) h = absurd h
-no_config s (OfAlert labels alert) h = refl
-no_config s (OfSilence id silence) h = refl
-no_config s (OfMember member alert) h = refl
-no_config s (OfTimer group timer) h = refl
-no_config s (OfLog key entry) h = refl
-no_config s (OfNotes count) h = refl
+-- a change is of the place that leads back
+marked_back : (t u : Tables) (e : Change) → is_marked_at t (change_back u e) ≡ is_marked_at t e
+marked_back t u (OfMoment moment) = refl
+marked_back t u (OfRoster roster) = refl
+marked_back t u (OfAlert labels alert) = refl
+marked_back t u (OfSilence id silence) = refl
+marked_back t u (OfMember member alert) = refl
+marked_back t u (OfTimer group timer) = refl
+marked_back t u (OfLog key entry) = refl
+marked_back t u (OfNotes count) = refl
 
--- it fits the state after the change
-fits_back : (s : State) (e : Change) → IsAllowed s e → FitsOne (after_change s e) (change_back s e)
-fits_back s (OfMoment moment) h = tt
-fits_back s (OfConfig config) h = absurd h
-fits_back s (OfAlert labels alert) h = tt
-fits_back s (OfSilence id silence) h = tt
-fits_back s (OfMember member alert) h = h
-fits_back s (OfTimer group timer) h = tt
-fits_back s (OfLog key entry) h = tt
-fits_back s (OfNotes count) h = tt
+-- a roster that the store takes has no marks
+marked_before : (t : Tables) (s : State) (e : Change) → IsAllowed s e → (place : Change) → IsTrue (is_marked_at (with_roster t e) place) → IsTrue (is_marked_at t place)
+marked_before t s (OfRoster roster) h =
+    by_place (λ place. IsTrue (is_marked_at (record t { roster = roster }) place) → IsTrue (is_marked_at t place)) (λ m x. x) (λ r x. x) (λ k v x. x) (λ k v x. x)
+    (λ k v x. not_so _ _ (h.0 (member_on_route k)) x) (λ k v x. not_so _ _ (h.1 k) x) (λ k v x. x) (λ n x. x)
+marked_before t s e h = λ place x. x
 
--- it is of the same place
-marked_back : (t : Tables) (s : State) (e : Change) → is_marked_at t (change_back s e) ≡ is_marked_at t e
-marked_back t s (OfMoment moment) = refl
-marked_back t s (OfConfig config) = refl
-marked_back t s (OfAlert labels alert) = refl
-marked_back t s (OfSilence id silence) = refl
-marked_back t s (OfMember member alert) = refl
-marked_back t s (OfTimer group timer) = refl
-marked_back t s (OfLog key entry) = refl
-marked_back t s (OfNotes count) = refl
+-- the roster that is displaced leads back to the places of before
+more_back : (a b : Tables) (e : Change) → MorePlaces (with_roster a e) b → MorePlaces a (with_roster b (change_back a e))
+more_back a b (OfRoster roster) more = record { config = refl; alerts = more.alerts; silences = more.silences; placements = λ k h. h; timers = λ k h. h; log = more.log }
+more_back a b e more = more
+
+-- the roster has no mark
+more_marked : (a b : Tables) (e : Change) → is_marked_at a e ≡ true → MorePlaces (with_roster a e) b → MorePlaces a b
+more_marked a b (OfRoster roster) marked more = absurd (unlike marked)
+more_marked a b e marked more = more
 
 placed : {K V : Type 0} (R : K → K → Ordering) (t : Numbered K V) (k : K) (n : ℕ) → number_of R t k ≡ Some n → IsTrue (has_place R t k)
 unfolding has_place
 placed R t k n at = ap is_some at
 
 -- that place is there
-sound_back : (t : Tables) (s : State) (e : Change) (n : ℕ) → s.moment ≤ latest_read → IsPlaceOf t e n → IsSound t (change_back s e)
-sound_back t s (OfMoment moment) n late h = late
-sound_back t s (OfConfig config) n late h = tt
-sound_back t s (OfAlert labels alert) n late h = placed label_set_cmp t.alerts labels n h
-sound_back t s (OfSilence id silence) n late h = placed nat_cmp t.silences id n h
-sound_back t s (OfMember member alert) n late h = (placed route_labels_cmp t.roster.placements (member_on_route member) n h.0, h.1)
-sound_back t s (OfTimer group timer) n late h = placed route_labels_cmp t.roster.timers group n h
-sound_back t s (OfLog key entry) n late h = placed log_key_cmp t.log key n h
-sound_back t s (OfNotes count) n late h = tt
+sound_back : (t : Tables) (e : Change) (n : ℕ) → t.moment ≤ latest_read → IsPlaceOf t e n → FitsOne (shown_by t) e → IsSound t (change_back t e)
+sound_back t (OfMoment moment) n late h fits = late
+sound_back t (OfRoster roster) n late h fits = tt
+sound_back t (OfAlert labels alert) n late h fits = placed label_set_cmp t.alerts labels n h
+sound_back t (OfSilence id silence) n late h fits = placed nat_cmp t.silences id n h
+sound_back t (OfMember member alert) n late h fits = (placed route_labels_cmp t.roster.placements (member_on_route member) n h.0, h.1, fits)
+sound_back t (OfTimer group timer) n late h fits = placed route_labels_cmp t.roster.timers group n h
+sound_back t (OfLog key entry) n late h fits = placed log_key_cmp t.log key n h
+sound_back t (OfNotes count) n late h fits = tt
+
+-- whether a roster can be put back doesn't depend on the present one
+sound_anyway : (t : Tables) (e : Change) → IsSound (with_roster t e) e → IsSound t e
+sound_anyway t (OfRoster roster) h = h
+sound_anyway t e h = h
+
+-- an entry that can be put back is a change that the tables take
+pub fits_sound : (t : Tables) (e : Change) → IsSound t e → FitsOne (shown_by t) e
+fits_sound t (OfMember member alert) h = h.2
+fits_sound t e h = tt
 
 late_changed : (s : State) (e : Change) → IsAllowed s e → s.moment ≤ latest_read → (after_change s e).moment ≤ latest_read
 late_changed s (OfMoment moment) h late = h
-late_changed s (OfConfig config) h late = late
+late_changed s (OfRoster roster) h late = late
 late_changed s (OfAlert labels alert) h late = late
 late_changed s (OfSilence id silence) h late = late
 late_changed s (OfMember member alert) h late = late
@@ -401,7 +373,7 @@ late_changed s (OfNotes count) h late = late
 
 late_back : (t : Tables) (s : State) (e : Change) → IsSound t e → s.moment ≤ latest_read → (after_change s e).moment ≤ latest_read
 late_back t s (OfMoment moment) h late = h
-late_back t s (OfConfig config) h late = late
+late_back t s (OfRoster roster) h late = late
 late_back t s (OfAlert labels alert) h late = late
 late_back t s (OfSilence id silence) h late = late
 late_back t s (OfMember member alert) h late = late
@@ -411,7 +383,7 @@ late_back t s (OfNotes count) h late = late
 
 notes_changed : (s : State) (e : Change) → IsAllowed s e → (after_change s e).notes ≡ s.notes
 notes_changed s (OfMoment moment) h = refl
-notes_changed s (OfConfig config) h = refl
+notes_changed s (OfRoster roster) h = refl
 notes_changed s (OfAlert labels alert) h = refl
 notes_changed s (OfSilence id silence) h = refl
 notes_changed s (OfMember member alert) h = refl
@@ -419,20 +391,14 @@ notes_changed s (OfTimer group timer) h = refl
 notes_changed s (OfLog key entry) h = refl
 notes_changed s (OfNotes count) h = absurd h
 
-notes_apart : (s : State) (e : Change) → IsAllowed s e → same_place (OfNotes 0) (change_back s e) ≡ false
-notes_apart s (OfMoment moment) h = refl
-notes_apart s (OfConfig config) h = refl
-notes_apart s (OfAlert labels alert) h = refl
-notes_apart s (OfSilence id silence) h = refl
-notes_apart s (OfMember member alert) h = refl
-notes_apart s (OfTimer group timer) h = refl
-notes_apart s (OfLog key entry) h = refl
-notes_apart s (OfNotes count) h = absurd h
+notes_apart : (t : Tables) (s : State) (e : Change) → IsAllowed s e → same_place (OfNotes 0) (change_back t e) ≡ false
+notes_apart t s (OfNotes count) h = absurd h
+notes_apart t s e h = refl
 
 -- two changes of one place have one mark
 marked_alike : (t : Tables) (p e : Change) → same_place p e ≡ true → IsTrue (is_marked_at t e) → IsTrue (is_marked_at t p)
 marked_alike t (OfMoment a) (OfMoment b) is h = h
-marked_alike t (OfConfig a) (OfConfig b) is h = h
+marked_alike t (OfRoster a) (OfRoster b) is h = h
 marked_alike t (OfAlert a v) (OfAlert b w) is h = subst (λ k. IsTrue (is_entered label_set_cmp t.alerts k)) (sym (tells_apart label_set_cmp-IsAntisymmetric a b is)) h
 marked_alike t (OfSilence a v) (OfSilence b w) is h = subst (λ k. IsTrue (is_entered nat_cmp t.silences k)) (sym (tells_apart nat_cmp-IsAntisymmetric a b is)) h
 marked_alike t (OfMember a v) (OfMember b w) is h = subst (λ k. IsTrue (is_entered route_labels_cmp t.roster.placements k)) (sym (tells_apart route_labels_cmp-IsAntisymmetric (member_on_route a) (member_on_route b) is)) h
@@ -444,49 +410,34 @@ marked_alike t p e is h = absurd (unlike is)
 -- ---- the invariant after one change
 
 -- places are made for it, and room
-pub kept_placed : (a : Inside) (t : Tables) (j : Records Change) → IsKept a → SameValues a.tables t → MorePlaces a.tables t → ((place : Change) → NoNewMark a.tables t place) → j.closed ≡ a.journal.closed → j.current ≡ a.journal.current
-    → IsKept (record a { tables = t; journal = j })
-kept_placed a t j kept same more marks closed current =
-    let b : Inside = record a { tables = t; journal = j } in
-    kept_grown a b kept more same.moment closed current marks same.notes (fits_alike a b closed current (sym same.config, sym same.placements) kept.fits)
+pub kept_roomier : (a : Inside) (t : Tables) (j : Records Change) → IsKept a → IsRoomier a.tables a.journal t j → IsKept (record a { tables = t; journal = j })
+kept_roomier a t j kept roomier = kept_grown a (record a { tables = t; journal = j }) kept roomier.places roomier.values.moment roomier.closed roomier.current roomier.marks roomier.values.notes
 
--- room is made in the journal
-pub kept_reserved : (a : Inside) (j : Records Change) → IsKept a → j.closed ≡ a.journal.closed → j.current ≡ a.journal.current → IsKept (record a { journal = j })
-kept_reserved a j kept closed current =
-    kept_placed a a.tables j kept (record { moment = refl; config = refl; alerts = refl; silences = refl; placements = refl; timers = refl; log = refl; notes = refl })
-    (record { alerts = λ k h. h; silences = λ k h. h; placements = λ k h. h; timers = λ k h. h; log = λ k h. h }) (λ place h. h) closed current
+-- room is made in the journal and for notifications
+pub kept_reserved : (a b : Inside) → IsKept a → b.tables.notes.items ≡ a.tables.notes.items → b.journal.closed ≡ a.journal.closed → b.journal.current ≡ a.journal.current
+    → IsKept (record a { tables = record a.tables { notes = b.tables.notes }; journal = b.journal })
+kept_reserved a b kept notes closed current =
+    kept_grown a (record a { tables = record a.tables { notes = b.tables.notes }; journal = b.journal }) kept
+    (record { config = refl; alerts = λ k h. h; silences = λ k h. h; placements = λ k h. h; timers = λ k h. h; log = λ k h. h }) refl closed current (λ place h. h) notes
 
--- the change is of a place that has an entry
-fits_marked : (a b : Inside) (e : Change) → IsKept a → IsAllowed (state_of a) e → IsTrue (is_marked_at a.tables e) → state_of b ≡ after_change (state_of a) e → b.journal.closed ≡ a.journal.closed → b.journal.current ≡ a.journal.current
-    → Fits (entries_of b) (state_of b)
-fits_marked a b (OfMember member alert) kept h marked state closed current = fits_covered a b member alert kept marked state closed current
-fits_marked a b (OfConfig config) kept h marked state closed current = absurd h
-fits_marked a b (OfNotes count) kept h marked state closed current = absurd h
-fits_marked a b (OfMoment moment) kept h marked state closed current = fits_alike a b closed current (ap (λ (s : State). s.config) (sym state), ap (λ (s : State). s.placements) (sym state)) kept.fits
-fits_marked a b (OfAlert labels alert) kept h marked state closed current = fits_alike a b closed current (ap (λ (s : State). s.config) (sym state), ap (λ (s : State). s.placements) (sym state)) kept.fits
-fits_marked a b (OfSilence id silence) kept h marked state closed current = fits_alike a b closed current (ap (λ (s : State). s.config) (sym state), ap (λ (s : State). s.placements) (sym state)) kept.fits
-fits_marked a b (OfTimer group timer) kept h marked state closed current = fits_alike a b closed current (ap (λ (s : State). s.config) (sym state), ap (λ (s : State). s.placements) (sym state)) kept.fits
-fits_marked a b (OfLog key entry) kept h marked state closed current = fits_alike a b closed current (ap (λ (s : State). s.config) (sym state), ap (λ (s : State). s.placements) (sym state)) kept.fits
-
-pub kept_changed : (a b : Inside) (e : Change) (n : ℕ) → IsKept a → IsAllowed (state_of a) e → IsPlaceOf a.tables e n → MorePlaces a.tables b.tables → state_of b ≡ after_change (state_of a) e → IsEntered a.tables a.journal e b.tables b.journal → IsKept b
+pub kept_changed : (a b : Inside) (e : Change) (n : ℕ) → IsKept a → IsAllowed (state_of a) e → IsPlaceOf a.tables e n → MorePlaces (with_roster a.tables e) b.tables → state_of b ≡ after_change (state_of a) e → IsEntered a.tables a.journal e b.tables b.journal → IsKept b
 kept_changed a b e n kept allowed at more state entered =
     let s : State = state_of a in
-    let back : Change = change_back s e in
+    let back : Change = change_back a.tables e in
     let late : b.tables.moment ≤ latest_read = subst (λ (t : State). t.moment ≤ latest_read) (sym state) (late_changed s e allowed kept.moment) in
     let notes : b.tables.notes.items ≡ a.tables.notes.items = ap (λ (t : State). t.notes) state ∙ notes_changed s e allowed in
-    let again : after_change (state_of b) back ≡ s = ap (λ (t : State). after_change t back) state ∙ put_back-change s e (no_notes s e allowed) in
+    let marks : (place : Change) → NewMarkAt back a.tables b.tables place = λ place h. or_left (same_place place back) _ _ (marked_before a.tables s e allowed place) (entered.marks place h) in
     elim (is_marked_at a.tables e) as (λ m. is_marked_at a.tables e ≡ m → b.journal.current ≡ cond m a.journal.current (a.journal.current ++ back ∷ []) → IsKept b) [
       | true ↦ λ marked current.
-          kept_still a b kept more late entered.closed current
-          (λ place h. either (same_place place back) (is_marked_at a.tables place) _ (λ same. marked_alike a.tables place back same (marked_back a.tables s e ∙ marked)) (λ before. before) (entered.marks place h))
+          kept_still a b kept (more_marked a.tables b.tables e marked more) late entered.closed current
+          (λ place h. either (same_place place back) (is_marked_at a.tables place) _ (λ same. marked_alike a.tables place back same (marked_back a.tables a.tables e ∙ marked)) (λ before. before) (marks place h))
           (subst (λ items. length a.tables.notes.items ≤ length items) (sym notes) (le_refl (length a.tables.notes.items)))
-          (fits_marked a b e kept allowed marked state entered.closed current)
       | false ↦ λ _ current.
-          kept_pushed a b back kept more late entered.closed current (sound-more a.tables b.tables more back (sound_back a.tables s e n kept.moment at)) entered.marks
+          let more_there : MorePlaces a.tables (with_roster b.tables back) = more_back a.tables b.tables e more in
+          kept_pushed a b back kept more_there late entered.closed current
+          (sound_anyway b.tables back (sound-more a.tables (with_roster b.tables back) more_there back (sound_back a.tables e n kept.moment at (fits_one s e allowed)))) marks
           (λ h. subst (λ items. NotesEntered (a.journal.current ++ back ∷ []) (length items)) (sym notes)
-          (notes_entered-push a.journal.current back (length a.tables.notes.items) (kept.notes (subst (λ x. IsTrue (x || a.tables.are_notes_entered)) (notes_apart s e allowed) (entered.marks (OfNotes 0) h)))))
-          (no_config s e allowed) (ap (λ (t : State). t.config) (sym again), ap (λ (t : State). t.placements) (sym again))
-          (subst (λ t. FitsOne t back) (sym state) (fits_back s e allowed))
+          (notes_entered-push a.journal.current back (length a.tables.notes.items) (kept.notes (subst (λ x. IsTrue (x || a.tables.are_notes_entered)) (notes_apart a.tables s e allowed) (marks (OfNotes 0) h)))))
     ] refl entered.current
 
 -- ---- what the open record gives by being put back, after one change
@@ -494,24 +445,38 @@ kept_changed a b e n kept allowed at more state entered =
 pub undone_changed : (a b : Inside) (e : Change) → IsKept a → IsAllowed (state_of a) e → state_of b ≡ after_change (state_of a) e → IsEntered a.tables a.journal e b.tables b.journal → before_open_record (kept_of b) ≡ before_open_record (kept_of a)
 undone_changed a b e kept allowed state entered =
     let s : State = state_of a in
-    elim (is_marked_at a.tables e) as (λ m. is_marked_at a.tables e ≡ m → b.journal.current ≡ cond m a.journal.current (a.journal.current ++ change_back s e ∷ []) → before_open_record (kept_of b) ≡ before_open_record (kept_of a)) [
+    let back : Change = change_back a.tables e in
+    elim (is_marked_at a.tables e) as (λ m. is_marked_at a.tables e ≡ m → b.journal.current ≡ cond m a.journal.current (a.journal.current ++ back ∷ []) → before_open_record (kept_of b) ≡ before_open_record (kept_of a)) [
       | true ↦ λ marked current. undone_covered a b e kept (no_notes s e allowed) marked state current entered.closed entered.room
-      | false ↦ λ _ current. undone_pushed a b e (change_back s e) (no_notes s e allowed) state refl current entered.closed entered.room
+      | false ↦ λ _ current. undone_pushed a b e back (no_notes s e allowed) state refl current entered.closed entered.room
     ] refl entered.current
 
 -- places are made, and room
-pub undone_placed : (a : Inside) (t : Tables) (j : Records Change) → SameValues a.tables t → j.closed ≡ a.journal.closed → j.current ≡ a.journal.current → j.record_room ≡ a.journal.record_room
-    → before_open_record (kept_of (record a { tables = t; journal = j })) ≡ before_open_record (kept_of a)
-undone_placed a t j same closed current room =
-    same_undone (kept_of (record a { tables = t; journal = j })) (kept_of a) (λ i. put_back (current i) (same_state a.tables t same i)) closed room
+undone_roomier : (a : Inside) (t : Tables) (j : Records Change) → IsRoomier a.tables a.journal t j → before_open_record (kept_of (record a { tables = t; journal = j })) ≡ before_open_record (kept_of a)
+undone_roomier a t j roomier =
+    same_undone (kept_of (record a { tables = t; journal = j })) (kept_of a) (λ i. put_back (roomier.current i) (same_state a.tables t roomier.values i)) roomier.closed roomier.room
 
 pub undone_reserved : (a : Inside) (j : Records Change) → j.closed ≡ a.journal.closed → j.current ≡ a.journal.current → j.record_room ≡ a.journal.record_room → before_open_record (kept_of (record a { journal = j })) ≡ before_open_record (kept_of a)
 undone_reserved a j closed current room = same_undone (kept_of (record a { journal = j })) (kept_of a) (ap (λ es. put_back es (state_of a)) current) closed room
 
+-- ---- a change whose place and room were made first
+
+module _ (a : Inside) (t u : Tables) (j k : Records Change) (e : Change) (kept : IsKept a) (roomier : IsRoomier a.tables a.journal t j) (allowed : IsAllowed (state_of a) e)
+    (state : shown_by u ≡ after_change (shown_by t) e) (entered : IsEntered t j e u k) where
+  allowed_there : IsAllowed (shown_by t) e
+  allowed_there = subst (λ s. IsAllowed s e) (sym (same_state a.tables t roomier.values)) allowed
+
+  pub kept_put : (n : ℕ) → IsPlaceOf t e n → MorePlaces (with_roster t e) u → IsKept (record a { tables = u; journal = k })
+  kept_put n at more = kept_changed (record a { tables = t; journal = j }) (record a { tables = u; journal = k }) e n (kept_roomier a t j kept roomier) allowed_there at more state entered
+
+  pub undone_put : before_open_record (kept_of (record a { tables = u; journal = k })) ≡ before_open_record (kept_of a)
+  undone_put =
+      undone_changed (record a { tables = t; journal = j }) (record a { tables = u; journal = k }) e (kept_roomier a t j kept roomier) allowed_there state entered
+      ∙ undone_roomier a t j roomier
+
 -- ---- the last entry
 
-pub kept_undone : (a b : Inside) (e : Change) → IsKept a → MorePlaces a.tables b.tables → IsUnmarked b.tables → b.journal.closed ≡ a.journal.closed → a.journal.current ≡ b.journal.current ++ e ∷ [] → state_of b ≡ after_change (state_of a) e → IsKept b
+pub kept_undone : (a b : Inside) (e : Change) → IsKept a → MorePlaces (with_roster a.tables e) b.tables → IsUnmarked b.tables → b.journal.closed ≡ a.journal.closed → a.journal.current ≡ b.journal.current ++ e ∷ [] → state_of b ≡ after_change (state_of a) e → IsKept b
 kept_undone a b e kept more unmarked closed current state =
     kept_popped a b e kept more unmarked
     (subst (λ (t : State). t.moment ≤ latest_read) (sym state) (late_back a.tables (state_of a) e (last_is_sound a b.journal.current e kept current) kept.moment)) closed current
-    (ap (λ (t : State). t.config) (sym state), ap (λ (t : State). t.placements) (sym state))

@@ -1,11 +1,11 @@
 -- Which timers are pending.
-use Rattle.std.proofs.Common.{◌≡◌, ℕ, Bool, true, false, cond, ◌||◌, ◌&&◌, T, List, [], ◌∷◌, ◌++◌, Option, Some, None, map, refl, sym, ap, ◌∙◌}
+use Rattle.std.proofs.Common.{◌≡◌, ℕ, Bool, true, false, cond, ◌||◌, T, List, [], ◌∷◌, ◌++◌, Option, Some, None, map, refl, sym, ap, ◌∙◌}
 use Rattle.std.specs.Prelude.{◌*◌, option_map}
 use Rattle.std.specs.Option.{option_map_or}
 use Rattle.std.specs.List.{filter_map, cons_option}
 use Rattle.std.specs.declared.cmp.Ordering.{Ordering}
 use Rattle.std.specs.declared.cmp.Ordering.TheVariants.{Less, Equal, Greater}
-use Rattle.std.specs.Ordering.{nat_cmp, eq_by_cmp, is_eq, is_lt, ordering_then}
+use Rattle.std.specs.Ordering.{nat_cmp, eq_by_cmp, is_eq, ordering_then}
 use Rattle.std.specs.Cmp.{IsTotalOrder, tied_itself}
 use Rattle.std.specs.FinMap.{find, is_sorted, IsAntisymmetric}
 use Rattle.std.specs.FinMap.Entries.{below_all}
@@ -13,6 +13,7 @@ use Rattle.std.proofs.lemmas.Bool.{true≢false}
 use Rattle.std.proofs.lemmas.List.Folds.{list_any-append}
 use Rattle.amr_labels.specs.Labels.{LabelSet, label_set_cmp, label_set_cmp_total, label_set_cmp-IsAntisymmetric}
 use Rattle.amr_labels.specs.Map.{Map, get, entries, get-entries, entries-sorted}
+use Rattle.amr_labels.proofs.Sorted as sorted
 use Rattle.amr_rules.specs.declared.alert.Alert.{Alert}
 use Rattle.amr_rules.specs.Muting.{Alerts}
 use Rattle.amr_time.specs.Time.{Moment, second, next_multiple_of}
@@ -60,19 +61,6 @@ no_of : (a b : Bool) → (a ≡ true → b ≡ true) → b ≡ false → a ≡ f
 no_of true b f e = absurd (true≢false (sym (f refl) ∙ e))
 no_of false b f e = refl
 
-less_is : (o : Ordering) → T (is_lt o) → o ≡ Less
-less_is Less p = refl
-less_is Equal p = absurd p
-less_is Greater p = absurd p
-
-both_first : (a b : Bool) → T (a && b) → T a
-both_first true b p = tt
-both_first false b p = p
-
-both_second : (a b : Bool) → T (a && b) → T b
-both_second true b p = p
-both_second false b p = absurd p
-
 -- ---- what is due of a map's entries
 
 -- whether a moment is the given one
@@ -96,16 +84,16 @@ module _ {K X : Type 0} {R : K → K → Ordering} (o : IsTotalOrder R) (exact :
   none_below : (k : K) (es : List (K × X)) → R q k ≡ Equal → T (below_all R k es) → has due_cmp (filter_map f es) d ≡ false
   none_below k [] t h = refl
   none_below k (e ∷ es) t h =
-      let above : R q e.0 ≡ Less = o.congr q k e.0 t ∙ less_is _ (both_first _ _ h) in
-      has_cons d (f e) (filter_map f es) ∙ ap (λ b. b || has due_cmp (filter_map f es) d) (no_of _ _ (apart e) (ap is_eq above)) ∙ none_below k es t (both_second _ _ h)
+      let above : R q e.0 ≡ Less = o.congr q k e.0 t ∙ sorted.less _ (sorted.first _ _ h) in
+      has_cons d (f e) (filter_map f es) ∙ ap (λ b. b || has due_cmp (filter_map f es) d) (no_of _ _ (apart e) (ap is_eq above)) ∙ none_below k es t (sorted.second _ _ h)
 
   found_in : (es : List (K × X)) → T (is_sorted R es) → has due_cmp (filter_map f es) d ≡ option_map_or (λ x. tied d (f (q, x))) (find R q es) false
   found_in [] h = refl
   found_in (e ∷ es) h =
       has_cons d (f e) (filter_map f es)
       ∙ elim (eq_by_cmp R q e.0) as (λ b. eq_by_cmp R q e.0 ≡ b → (tied d (f e) || has due_cmp (filter_map f es) d) ≡ option_map_or (λ x. tied d (f (q, x))) (cond b (Some e.1) (find R q es)) false) [
-        | true ↦ λ t. ap (λ b. tied d (f e) || b) (none_below e.0 es (equal_of _ t) (both_first _ _ h)) ∙ or_false _ ∙ ap (λ k. tied d (f (k, e.1))) (sym (exact q e.0 (equal_of _ t)))
-        | false ↦ λ t. ap (λ b. b || has due_cmp (filter_map f es) d) (no_of _ _ (apart e) t) ∙ found_in es (both_second _ _ h)
+        | true ↦ λ t. ap (λ b. tied d (f e) || b) (none_below e.0 es (equal_of _ t) (sorted.first _ _ h)) ∙ or_false _ ∙ ap (λ k. tied d (f (k, e.1))) (sym (exact q e.0 (equal_of _ t)))
+        | false ↦ λ t. ap (λ b. b || has due_cmp (filter_map f es) d) (no_of _ _ (apart e) t) ∙ found_in es (sorted.second _ _ h)
       ] refl
 
   pub found_of : (m : Map R X) → has due_cmp (filter_map f (entries m)) d ≡ option_map_or (λ x. tied d (f (q, x))) (get m q) false

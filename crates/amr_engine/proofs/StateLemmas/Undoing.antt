@@ -15,13 +15,16 @@ use Rattle.amr_rules.specs.declared.alert.Alert.{Alert}
 use Rattle.amr_rules.specs.declared.dedup.LogEntry.{LogEntry}
 use Rattle.amr_rules.specs.Silences.{Silences}
 use Rattle.amr_rules.specs.Muting.{Alerts}
+use Rattle.amr_engine.specs.State.Rostered.{Rostered}
 use Rattle.amr_engine.specs.declared.state.notification.GroupTimer.{GroupTimer}
 use Rattle.amr_engine.specs.declared.state.notification.Notification.{Notification}
 use Rattle.amr_engine.specs.declared.state.change.Change.{Change}
-use Rattle.amr_engine.specs.declared.state.change.Change.TheVariants.{OfMoment, OfConfig, OfAlert, OfSilence, OfMember, OfTimer, OfLog, OfNotes}
+use Rattle.amr_engine.specs.declared.state.change.Change.TheVariants.{OfMoment, OfRoster, OfAlert, OfSilence, OfMember, OfTimer, OfLog, OfNotes}
 use Rattle.amr_config.specs.RouteLabels.{route_labels_cmp, route_labels_cmp_total, route_labels_cmp-IsAntisymmetric}
 use Rattle.amr_engine.specs.State.State.{State, member_on_route, log_key_cmp, log_key_cmp_total, log_key_cmp-IsAntisymmetric}
-use Rattle.amr_engine.specs.State.Records.{after_change, put_back, change_back, same_place, has_entry, IsNoNotification, NotesEntered, befores, before_all}
+use Rattle.amr_engine.specs.declared.state.tables.Tables.{Tables}
+use Rattle.amr_engine.specs.State.Records.{after_change, put_back, same_place, has_entry, IsNoNotification, NotesEntered, befores, before_all}
+use Rattle.amr_engine.specs.State.Stored.{shown_by, change_back}
 use Rattle.amr_engine.specs.State.Kept.{Kept, before_open_record}
 
 -- a record with one more entry is put back from that entry on
@@ -31,23 +34,23 @@ put_back-push [] last s = refl
 put_back-push (first ∷ rest) last s = ap (λ (x : State). after_change x first) (put_back-push rest last s)
 
 -- a change of one place is put back by the value that the place had
-pub put_back-change : (s : State) (change : Change) → IsNoNotification change → after_change (after_change s change) (change_back s change) ≡ s
-put_back-change s (OfMoment now) h = refl
-put_back-change s (OfConfig config) h = refl
-put_back-change s (OfAlert labels alert) h = ap (λ (m : Alerts). record s { alerts = m }) (set-back label_set_cmp_total label_set_cmp-IsAntisymmetric s.alerts labels alert)
-put_back-change s (OfSilence id silence) h = ap (λ (m : Silences). record s { silences = m }) (set-back nat_cmp_total nat_cmp-IsAntisymmetric s.silences id silence)
-put_back-change s (OfMember member alert) h = ap (λ (m : Map route_labels_cmp Alert). record s { placements = m }) (set-back route_labels_cmp_total route_labels_cmp-IsAntisymmetric s.placements (member_on_route member) alert)
-put_back-change s (OfTimer group timer) h = ap (λ (m : Map route_labels_cmp GroupTimer). record s { timers = m }) (set-back route_labels_cmp_total route_labels_cmp-IsAntisymmetric s.timers group timer)
-put_back-change s (OfLog key entry) h = ap (λ (m : Map log_key_cmp LogEntry). record s { log = m }) (set-back log_key_cmp_total log_key_cmp-IsAntisymmetric s.log key entry)
-put_back-change s (OfNotes count) h = absurd h
+pub put_back-change : (t : Tables) (change : Change) → IsNoNotification change → after_change (after_change (shown_by t) change) (change_back t change) ≡ shown_by t
+put_back-change t (OfMoment now) h = refl
+put_back-change t (OfRoster roster) h = refl
+put_back-change t (OfAlert labels alert) h = ap (λ (m : Alerts). record (shown_by t) { alerts = m }) (set-back label_set_cmp_total label_set_cmp-IsAntisymmetric (shown_by t).alerts labels alert)
+put_back-change t (OfSilence id silence) h = ap (λ (m : Silences). record (shown_by t) { silences = m }) (set-back nat_cmp_total nat_cmp-IsAntisymmetric (shown_by t).silences id silence)
+put_back-change t (OfMember member alert) h = ap (λ (m : Map route_labels_cmp Alert). record (shown_by t) { placements = m }) (set-back route_labels_cmp_total route_labels_cmp-IsAntisymmetric (shown_by t).placements (member_on_route member) alert)
+put_back-change t (OfTimer group timer) h = ap (λ (m : Map route_labels_cmp GroupTimer). record (shown_by t) { timers = m }) (set-back route_labels_cmp_total route_labels_cmp-IsAntisymmetric (shown_by t).timers group timer)
+put_back-change t (OfLog key entry) h = ap (λ (m : Map log_key_cmp LogEntry). record (shown_by t) { log = m }) (set-back log_key_cmp_total log_key_cmp-IsAntisymmetric (shown_by t).log key entry)
+put_back-change t (OfNotes count) h = absurd h
 
 -- so is a notification that is appended
 pub put_back-notification : (s : State) (notification : Notification) → after_change (record s { notes = s.notes ++ notification ∷ [] }) (OfNotes (length s.notes)) ≡ s
 put_back-notification s notification = ap (λ (notes : List Notification). record s { notes = notes }) (take-append_seam s.notes (notification ∷ []))
 
 -- a change that is entered leaves what the open record gives
-pub put_back-entered : (entries : List Change) (s : State) (change : Change) → IsNoNotification change → put_back (entries ++ change_back s change ∷ []) (after_change s change) ≡ put_back entries s
-put_back-entered entries s change h = put_back-push entries (change_back s change) (after_change s change) ∙ ap (put_back entries) (put_back-change s change h)
+pub put_back-entered : (entries : List Change) (t : Tables) (change : Change) → IsNoNotification change → put_back (entries ++ change_back t change ∷ []) (after_change (shown_by t) change) ≡ put_back entries (shown_by t)
+put_back-entered entries t change h = put_back-push entries (change_back t change) (after_change (shown_by t) change) ∙ ap (put_back entries) (put_back-change t change h)
 
 pub put_back-appended : (entries : List Change) (s : State) (notification : Notification) → put_back (entries ++ OfNotes (length s.notes) ∷ []) (record s { notes = s.notes ++ notification ∷ [] }) ≡ put_back entries s
 put_back-appended entries s notification = put_back-push entries (OfNotes (length s.notes)) (record s { notes = s.notes ++ notification ∷ [] }) ∙ ap (put_back entries) (put_back-notification s notification)
@@ -89,7 +92,7 @@ module _ {K X : Type 0} {R : K → K → Ordering} (o : IsTotalOrder R) (same : 
 -- of two values of one place the second counts
 pub overwrite : (s : State) (first second : Change) → same_place first second ≡ true → IsNoNotification first → after_change (after_change s first) second ≡ after_change s second
 overwrite s (OfMoment a) (OfMoment b) t h = refl
-overwrite s (OfConfig a) (OfConfig b) t h = refl
+overwrite s (OfRoster a) (OfRoster b) t h = refl
 overwrite s (OfAlert a v) (OfAlert b w) t h = ap (λ (m : Alerts). record s { alerts = m }) (set-set label_set_cmp_total label_set_cmp-IsAntisymmetric s.alerts a b v w t)
 overwrite s (OfSilence a v) (OfSilence b w) t h = ap (λ (m : Silences). record s { silences = m }) (set-set nat_cmp_total nat_cmp-IsAntisymmetric s.silences a b v w t)
 overwrite s (OfMember a v) (OfMember b w) t h = ap (λ (m : Map route_labels_cmp Alert). record s { placements = m }) (set-set route_labels_cmp_total route_labels_cmp-IsAntisymmetric s.placements (member_on_route a) (member_on_route b) v w t)
@@ -98,17 +101,23 @@ overwrite s (OfLog a v) (OfLog b w) t h = ap (λ (m : Map log_key_cmp LogEntry).
 overwrite s (OfNotes a) second t h = absurd h
 overwrite s first second t h = absurd (unlike t)
 
+-- neither is of the roster, which has the places of members and of groups
+abbrev KeepsRoster : Change → Type 0
+KeepsRoster (OfRoster roster) = ⊥
+KeepsRoster _ = Unit {0}
+
 -- values of two places are put back in any order
-pub commute : (s : State) (a b : Change) → same_place a b ≡ false → after_change (after_change s a) b ≡ after_change (after_change s b) a
-commute s (OfMoment a) (OfMoment b) f = absurd (unlike (sym f))
-commute s (OfConfig a) (OfConfig b) f = absurd (unlike (sym f))
-commute s (OfAlert a v) (OfAlert b w) f = ap (λ (m : Alerts). record s { alerts = m }) (set-swap label_set_cmp_total label_set_cmp-IsAntisymmetric s.alerts a b v w f)
-commute s (OfSilence a v) (OfSilence b w) f = ap (λ (m : Silences). record s { silences = m }) (set-swap nat_cmp_total nat_cmp-IsAntisymmetric s.silences a b v w f)
-commute s (OfMember a v) (OfMember b w) f = ap (λ (m : Map route_labels_cmp Alert). record s { placements = m }) (set-swap route_labels_cmp_total route_labels_cmp-IsAntisymmetric s.placements (member_on_route a) (member_on_route b) v w f)
-commute s (OfTimer a v) (OfTimer b w) f = ap (λ (m : Map route_labels_cmp GroupTimer). record s { timers = m }) (set-swap route_labels_cmp_total route_labels_cmp-IsAntisymmetric s.timers a b v w f)
-commute s (OfLog a v) (OfLog b w) f = ap (λ (m : Map log_key_cmp LogEntry). record s { log = m }) (set-swap log_key_cmp_total log_key_cmp-IsAntisymmetric s.log a b v w f)
-commute s (OfNotes a) (OfNotes b) f = absurd (unlike (sym f))
-commute s a b f = refl
+commute : (s : State) (a b : Change) → KeepsRoster a → KeepsRoster b → same_place a b ≡ false → after_change (after_change s a) b ≡ after_change (after_change s b) a
+commute s (OfRoster a) b h _ f = absurd h
+commute s a (OfRoster b) _ h f = absurd h
+commute s (OfMoment a) (OfMoment b) _ _ f = absurd (unlike (sym f))
+commute s (OfAlert a v) (OfAlert b w) _ _ f = ap (λ (m : Alerts). record s { alerts = m }) (set-swap label_set_cmp_total label_set_cmp-IsAntisymmetric s.alerts a b v w f)
+commute s (OfSilence a v) (OfSilence b w) _ _ f = ap (λ (m : Silences). record s { silences = m }) (set-swap nat_cmp_total nat_cmp-IsAntisymmetric s.silences a b v w f)
+commute s (OfMember a v) (OfMember b w) _ _ f = ap (λ (m : Map route_labels_cmp Alert). record s { placements = m }) (set-swap route_labels_cmp_total route_labels_cmp-IsAntisymmetric s.placements (member_on_route a) (member_on_route b) v w f)
+commute s (OfTimer a v) (OfTimer b w) _ _ f = ap (λ (m : Map route_labels_cmp GroupTimer). record s { timers = m }) (set-swap route_labels_cmp_total route_labels_cmp-IsAntisymmetric s.timers a b v w f)
+commute s (OfLog a v) (OfLog b w) _ _ f = ap (λ (m : Map log_key_cmp LogEntry). record s { log = m }) (set-swap log_key_cmp_total log_key_cmp-IsAntisymmetric s.log a b v w f)
+commute s (OfNotes a) (OfNotes b) _ _ f = absurd (unlike (sym f))
+commute s a b _ _ f = refl
 
 take-swap : {A : Type 0} (m n : ℕ) (xs : List A) → take m (take n xs) ≡ take n (take m xs)
 take-swap zero zero xs = refl
@@ -123,19 +132,44 @@ passes_same (OfNotes a) (OfNotes b) s t is h =
     ∙ ap (λ (notes : List Notification). record t { notes = notes }) (take-swap a b t.notes)
 passes_same (OfNotes a) q s t is h = absurd (unlike is)
 passes_same (OfMoment a) q s t is h = overwrite s (OfMoment a) q is tt ∙ h ∙ sym (overwrite t (OfMoment a) q is tt)
-passes_same (OfConfig a) q s t is h = overwrite s (OfConfig a) q is tt ∙ h ∙ sym (overwrite t (OfConfig a) q is tt)
+passes_same (OfRoster a) q s t is h = overwrite s (OfRoster a) q is tt ∙ h ∙ sym (overwrite t (OfRoster a) q is tt)
 passes_same (OfAlert a v) q s t is h = overwrite s (OfAlert a v) q is tt ∙ h ∙ sym (overwrite t (OfAlert a v) q is tt)
 passes_same (OfSilence a v) q s t is h = overwrite s (OfSilence a v) q is tt ∙ h ∙ sym (overwrite t (OfSilence a v) q is tt)
 passes_same (OfMember a v) q s t is h = overwrite s (OfMember a v) q is tt ∙ h ∙ sym (overwrite t (OfMember a v) q is tt)
 passes_same (OfTimer a v) q s t is h = overwrite s (OfTimer a v) q is tt ∙ h ∙ sym (overwrite t (OfTimer a v) q is tt)
 passes_same (OfLog a v) q s t is h = overwrite s (OfLog a v) q is tt ∙ h ∙ sym (overwrite t (OfLog a v) q is tt)
 
+passes_other : (e q : Change) (s t : State) → KeepsRoster e → KeepsRoster q → same_place e q ≡ false → after_change s q ≡ after_change t q → after_change (after_change s e) q ≡ after_change (after_change t e) q
+passes_other e q s t one two f h = commute s e q one two f ∙ ap (λ (x : State). after_change x e) h ∙ sym (commute t e q one two f)
+
+-- states that an entry makes alike are alike under any roster, with that entry
+with_any_roster : (roster : Rostered) (q : Change) (s t : State) → after_change s q ≡ after_change t q → after_change (after_change s (OfRoster roster)) q ≡ after_change (after_change t (OfRoster roster)) q
+with_any_roster roster (OfMoment a) s t h = ap (λ (x : State). after_change x (OfRoster roster)) h
+with_any_roster roster (OfRoster a) s t h = h
+with_any_roster roster (OfAlert a v) s t h = ap (λ (x : State). after_change x (OfRoster roster)) h
+with_any_roster roster (OfSilence a v) s t h = ap (λ (x : State). after_change x (OfRoster roster)) h
+with_any_roster roster (OfMember a v) s t h = ap (λ (x : State). after_change (after_change x (OfRoster roster)) (OfMember a v)) h
+with_any_roster roster (OfTimer a v) s t h = ap (λ (x : State). after_change (after_change x (OfRoster roster)) (OfTimer a v)) h
+with_any_roster roster (OfLog a v) s t h = ap (λ (x : State). after_change x (OfRoster roster)) h
+with_any_roster roster (OfNotes a) s t h = ap (λ (x : State). after_change x (OfRoster roster)) h
+
+passes_else : (e q : Change) (s t : State) → same_place e q ≡ false → after_change s q ≡ after_change t q → after_change (after_change s e) q ≡ after_change (after_change t e) q
+passes_else (OfRoster roster) q s t f h = with_any_roster roster q s t h
+passes_else (OfMember a v) (OfRoster roster) s t f h = h
+passes_else (OfTimer a v) (OfRoster roster) s t f h = h
+passes_else (OfMoment a) (OfRoster roster) s t f h = ap (λ (x : State). after_change x (OfMoment a)) h
+passes_else (OfAlert a v) (OfRoster roster) s t f h = ap (λ (x : State). after_change x (OfAlert a v)) h
+passes_else (OfSilence a v) (OfRoster roster) s t f h = ap (λ (x : State). after_change x (OfSilence a v)) h
+passes_else (OfLog a v) (OfRoster roster) s t f h = ap (λ (x : State). after_change x (OfLog a v)) h
+passes_else (OfNotes a) (OfRoster roster) s t f h = ap (λ (x : State). after_change x (OfNotes a)) h
+passes_else e q s t f h = passes_other e q s t tt tt f h
+
 -- states that one entry makes alike it makes alike after another, too
 passes : (e q : Change) (s t : State) → after_change s q ≡ after_change t q → after_change (after_change s e) q ≡ after_change (after_change t e) q
 passes e q s t h =
     elim (same_place e q) as (λ b. same_place e q ≡ b → after_change (after_change s e) q ≡ after_change (after_change t e) q) [
       | true ↦ λ is. passes_same e q s t is h
-      | false ↦ λ f. commute s e q f ∙ ap (λ (x : State). after_change x e) h ∙ sym (commute t e q f)
+      | false ↦ λ f. passes_else e q s t f h
     ] refl
 
 passes_all : (entries : List Change) (q : Change) (s t : State) → after_change s q ≡ after_change t q → after_change (put_back entries s) q ≡ after_change (put_back entries t) q
@@ -181,7 +215,7 @@ unfolding NotesEntered
 notes_entered-last [] count n h = inl h
 notes_entered-last (first ∷ rest) count n h = inr (notes_entered-last rest count n h)
 
-or_left : (a b c : Bool) → (b ≡ true → c ≡ true) → (a || b) ≡ true → (a || c) ≡ true
+pub or_left : (a b c : Bool) → (b ≡ true → c ≡ true) → (a || b) ≡ true → (a || c) ≡ true
 or_left true b c f h = refl
 or_left false b c f h = f h
 
@@ -199,12 +233,6 @@ pub has_entry-last : (entries : List Change) (e place : Change) → same_place p
 unfolding has_entry
 has_entry-last [] e place h = ap (λ b. b || false) h
 has_entry-last (first ∷ rest) e place h = or_right (same_place place first) _ (has_entry-last rest e place h)
-
--- and in one with other entries before
-pub has_entry-after : (before entries : List Change) (place : Change) → has_entry entries place ≡ true → has_entry (before ++ entries) place ≡ true
-unfolding has_entry
-has_entry-after [] entries place h = h
-has_entry-after (first ∷ before) entries place h = or_right (same_place place first) _ (has_entry-after before entries place h)
 
 pub put_back-none : (s : State) → put_back [] s ≡ s
 unfolding put_back

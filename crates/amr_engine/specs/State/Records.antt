@@ -1,18 +1,19 @@
 -- Records of events: changes that lead back, and how an event is undone.
-use Rattle.std.specs.Prelude.{◌≤◌, ◌⊎◌, ℕ, Bool, true, false, List, [], ◌∷◌, take, length}
+use Rattle.std.specs.Prelude.{◌≤◌, ◌⊎◌, ℕ, Bool, true, false, List, [], ◌∷◌, take}
 use Rattle.std.specs.List.{list_any}
 use Rattle.std.specs.Ordering.{nat_cmp, eq_by_cmp}
-use Rattle.amr_labels.specs.Map.{get, set}
+use Rattle.amr_labels.specs.Map.{set}
 use Rattle.amr_labels.specs.Labels.{label_set_cmp}
 use Rattle.amr_engine.specs.declared.state.change.Change.{Change}
-use Rattle.amr_engine.specs.declared.state.change.Change.TheVariants.{OfMoment, OfConfig, OfAlert, OfSilence, OfMember, OfTimer, OfLog, OfNotes}
+use Rattle.amr_engine.specs.declared.state.change.Change.TheVariants.{OfMoment, OfRoster, OfAlert, OfSilence, OfMember, OfTimer, OfLog, OfNotes}
+use Rattle.amr_tables.specs.Numbered.{map_of}
 use Rattle.amr_config.specs.RouteLabels.{route_labels_cmp}
 use Rattle.amr_engine.specs.State.State.{State, member_on_route, log_key_cmp}
 
 -- the state after a change: with the change's value at its place
 abbrev pub after_change : State → Change → State
 after_change s (OfMoment moment) = record s { moment = moment }
-after_change s (OfConfig config) = record s { config = config }
+after_change s (OfRoster roster) = record s { config = roster.config; placements = map_of route_labels_cmp roster.placements; timers = map_of route_labels_cmp roster.timers }
 after_change s (OfAlert labels alert) = record s { alerts = set s.alerts labels alert }
 after_change s (OfSilence id silence) = record s { silences = set s.silences id silence }
 after_change s (OfMember member alert) = record s { placements = set s.placements (member_on_route member) alert }
@@ -25,21 +26,10 @@ unfoldable pub put_back : List Change → State → State
 put_back [] s = s
 put_back (first ∷ rest) s = after_change (put_back rest s) first
 
--- the same place with its present value; for the notifications, their present number
-abbrev pub change_back : State → Change → Change
-change_back s (OfMoment moment) = OfMoment s.moment
-change_back s (OfConfig config) = OfConfig s.config
-change_back s (OfAlert labels alert) = OfAlert labels (get s.alerts labels)
-change_back s (OfSilence id silence) = OfSilence id (get s.silences id)
-change_back s (OfMember member alert) = OfMember member (get s.placements (member_on_route member))
-change_back s (OfTimer group timer) = OfTimer group (get s.timers group)
-change_back s (OfLog key entry) = OfLog key (get s.log key)
-change_back s (OfNotes count) = OfNotes (length s.notes)
-
 -- whether two entries are of one place
 abbrev pub same_place : Change → Change → Bool
 same_place (OfMoment a) (OfMoment b) = true
-same_place (OfConfig a) (OfConfig b) = true
+same_place (OfRoster a) (OfRoster b) = true
 same_place (OfAlert a v) (OfAlert b w) = eq_by_cmp label_set_cmp a b
 same_place (OfSilence a v) (OfSilence b w) = eq_by_cmp nat_cmp a b
 same_place (OfMember a v) (OfMember b w) = eq_by_cmp route_labels_cmp (member_on_route a) (member_on_route b)

@@ -1,7 +1,8 @@
 -- What the tables and the journal of a store mean as a state with its records.
 use Rattle.std.specs.Prelude.{◌≡◌, ◌≤◌, ◌++◌, ◌||◌, ◌∷◌, [], ℕ, Bool, false, List, Some, IsTrue, length, if◌then◌else◌}
-use Rattle.std.specs.List.{AllByRecursion, flat_map}
+use Rattle.std.specs.List.{flat_map}
 use Rattle.std.specs.Ordering.{nat_cmp}
+use Rattle.amr_labels.specs.Map.{get}
 use Rattle.amr_labels.specs.Labels.{LabelSet, label_set_cmp}
 use Rattle.amr_time.specs.Time.{latest_read}
 use Rattle.amr_tables.specs.Numbered.{map_of, has_place, number_of, is_entered}
@@ -9,12 +10,11 @@ use Rattle.amr_tables.specs.Records.{Records}
 use Rattle.amr_config.specs.declared.route_labels.RouteLabels.{RouteLabels}
 use Rattle.amr_engine.specs.declared.state.notification.LogKey.{LogKey}
 use Rattle.amr_engine.specs.declared.state.change.Change.{Change}
-use Rattle.amr_engine.specs.declared.state.change.Change.TheVariants.{OfMoment, OfConfig, OfAlert, OfSilence, OfMember, OfTimer, OfLog, OfNotes}
+use Rattle.amr_engine.specs.declared.state.change.Change.TheVariants.{OfMoment, OfRoster, OfAlert, OfSilence, OfMember, OfTimer, OfLog, OfNotes}
 use Rattle.amr_engine.specs.declared.state.tables.Tables.{Tables}
 use Rattle.amr_config.specs.RouteLabels.{route_labels_cmp}
-use Rattle.amr_engine.specs.State.State.{State, member_on_route, log_key_cmp}
-use Rattle.amr_engine.specs.State.Records.{change_back, same_place, has_entry, NotesEntered}
-use Rattle.amr_engine.specs.State.Fitting.{Fits, since_config}
+use Rattle.amr_engine.specs.State.State.{State, member_on_route, group_key, log_key_cmp}
+use Rattle.amr_engine.specs.State.Records.{same_place, has_entry, NotesEntered}
 use Rattle.amr_engine.specs.State.Kept.{Kept}
 use Rattle.amr_engine.specs.declared.state.store.Store.TheInside.{Inside}
 
@@ -43,25 +43,49 @@ kept_of store = record {
   room = store.journal.record_room;
 }
 
--- an entry can be put back: its place exists, and so does that of a member's group
+-- an entry can be put back: its place exists, and so does that of a member's group, which is the one
+-- that the configuration gives it
 abbrev pub IsSound : Tables → Change → Type 0
 IsSound tables (OfMoment moment) = moment ≤ latest_read
-IsSound tables (OfConfig config) = Unit {0}
+IsSound tables (OfRoster roster) = Unit {0}
 IsSound tables (OfAlert labels alert) = IsTrue (has_place label_set_cmp tables.alerts labels)
 IsSound tables (OfSilence id silence) = IsTrue (has_place nat_cmp tables.silences id)
-IsSound tables (OfMember member alert) = IsTrue (has_place route_labels_cmp tables.roster.placements (member_on_route member)) × IsTrue (has_place route_labels_cmp tables.roster.timers member.group)
+IsSound tables (OfMember member alert) = IsTrue (has_place route_labels_cmp tables.roster.placements (member_on_route member)) × IsTrue (has_place route_labels_cmp tables.roster.timers member.group) × (member.group ≡ group_key tables.roster.config (member_on_route member))
 IsSound tables (OfTimer group timer) = IsTrue (has_place route_labels_cmp tables.roster.timers group)
 IsSound tables (OfLog key entry) = IsTrue (has_place log_key_cmp tables.log key)
 IsSound tables (OfNotes count) = Unit {0}
 
-abbrev pub AreSound : Tables → List Change → Type 0
-AreSound tables = AllByRecursion (IsSound tables)
+-- the tables with the roster of an entry, if it is of the roster
+abbrev pub with_roster : Tables → Change → Tables
+with_roster tables (OfRoster roster) = record tables { roster = roster }
+with_roster tables _ = tables
 
--- whether the entry's place is marked: the open record has an entry for it since the last change of
--- the configuration
+-- the tables with the roster that the entries put back
+unfoldable pub roster_back : List Change → Tables → Tables
+roster_back [] tables = tables
+roster_back (first ∷ rest) tables = with_roster (roster_back rest tables) first
+
+-- each entry can be put back after those behind it, with the roster of that time
+unfoldable pub AreSound : List Change → Tables → Type 0
+AreSound [] tables = Unit {0}
+AreSound (first ∷ rest) tables = AreSound rest tables × IsSound (roster_back rest tables) first
+
+-- the same place with its present value; for the notifications, their present number
+abbrev pub change_back : Tables → Change → Change
+change_back tables (OfMoment moment) = OfMoment tables.moment
+change_back tables (OfRoster roster) = OfRoster tables.roster
+change_back tables (OfAlert labels alert) = OfAlert labels (get (map_of label_set_cmp tables.alerts) labels)
+change_back tables (OfSilence id silence) = OfSilence id (get (map_of nat_cmp tables.silences) id)
+change_back tables (OfMember member alert) = OfMember member (get (map_of route_labels_cmp tables.roster.placements) (member_on_route member))
+change_back tables (OfTimer group timer) = OfTimer group (get (map_of route_labels_cmp tables.roster.timers) group)
+change_back tables (OfLog key entry) = OfLog key (get (map_of log_key_cmp tables.log) key)
+change_back tables (OfNotes count) = OfNotes (length tables.notes.items)
+
+-- whether the entry's place is marked: the open record has an entry for it. A roster's places have
+-- marks of its own, and the roster itself has none.
 abbrev pub is_marked_at : Tables → Change → Bool
 is_marked_at tables (OfMoment moment) = tables.is_moment_entered
-is_marked_at tables (OfConfig config) = false
+is_marked_at tables (OfRoster roster) = false
 is_marked_at tables (OfAlert labels alert) = is_entered label_set_cmp tables.alerts labels
 is_marked_at tables (OfSilence id silence) = is_entered nat_cmp tables.silences id
 is_marked_at tables (OfMember member alert) = is_entered route_labels_cmp tables.roster.placements (member_on_route member)
@@ -70,7 +94,7 @@ is_marked_at tables (OfLog key entry) = is_entered log_key_cmp tables.log key
 is_marked_at tables (OfNotes count) = tables.are_notes_entered
 
 -- the number is that of the change's place, and a member's group has a number; the clock, the
--- configuration and the notifications are in no table
+-- roster and the notifications are in no table
 abbrev pub IsPlaceOf : Tables → Change → ℕ → Type 0
 IsPlaceOf tables (OfAlert labels alert) n = number_of label_set_cmp tables.alerts labels ≡ Some n
 IsPlaceOf tables (OfSilence id silence) n = number_of nat_cmp tables.silences id ≡ Some n
@@ -91,8 +115,9 @@ NewMarkAt e a b place = IsTrue (is_marked_at b place) → IsTrue (same_place pla
 abbrev pub IsUnmarked : Tables → Type 0
 IsUnmarked tables = (place : Change) → is_marked_at tables place ≡ false
 
--- the second tables have all places of the first
+-- the second tables have the configuration and all places of the first
 pub record MorePlaces (a b : Tables) : Type 0 where
+  pub config : b.roster.config ≡ a.roster.config
   pub alerts : (k : LabelSet) → IsTrue (has_place label_set_cmp a.alerts k) → IsTrue (has_place label_set_cmp b.alerts k)
   pub silences : (k : ℕ) → IsTrue (has_place nat_cmp a.silences k) → IsTrue (has_place nat_cmp b.silences k)
   pub placements : (k : RouteLabels) → IsTrue (has_place route_labels_cmp a.roster.placements k) → IsTrue (has_place route_labels_cmp b.roster.placements k)
@@ -110,25 +135,31 @@ pub record SameValues (a b : Tables) : Type 0 where
   pub log : map_of log_key_cmp b.log ≡ map_of log_key_cmp a.log
   pub notes : b.notes.items ≡ a.notes.items
 
+-- The tables show the same, perhaps with more places, and the journal has the same records, with as
+-- much room for further ones.
+pub record IsRoomier (a : Tables) (journal : Records Change) (b : Tables) (written : Records Change) : Type 0 where
+  pub values : SameValues a b
+  pub places : MorePlaces a b
+  pub marks : (place : Change) → NoNewMark a b place
+  pub closed : written.closed ≡ journal.closed
+  pub current : written.current ≡ journal.current
+  pub room : written.record_room ≡ journal.record_room
+
 -- The open record has an entry more, which leads back from the change, unless the place is marked.
--- No other place gets a mark.
+-- No other place gets a mark, but a new roster has its own.
 pub record IsEntered (a : Tables) (journal : Records Change) (change : Change) (b : Tables) (written : Records Change) : Type 0 where
-  pub current : written.current ≡ (if is_marked_at a change then journal.current else journal.current ++ change_back (shown_by a) change ∷ [])
+  pub current : written.current ≡ (if is_marked_at a change then journal.current else journal.current ++ change_back a change ∷ [])
   pub closed : written.closed ≡ journal.closed
   pub room : written.record_room ≡ journal.record_room
-  pub marks : (place : Change) → NewMarkAt (change_back (shown_by a) change) a b place
+  pub marks : (place : Change) → NewMarkAt (change_back a change) (with_roster a change) b place
 
 -- the entries of all records, the oldest first
 abbrev pub entries_of : Inside → List Change
 entries_of store = flat_map (λ closed. closed) store.journal.closed ++ store.journal.current
 
--- Every record can be undone, each member goes back into its group under the configuration of that
--- time, and each marked place has an entry in the open record since its last change of the
--- configuration.
+-- Every record can be undone, and each marked place has an entry in the open record.
 pub record IsKept (store : Inside) : Type 0 where
   pub moment : store.tables.moment ≤ latest_read
-  pub current : AreSound store.tables store.journal.current
-  pub closed : AllByRecursion (AreSound store.tables) store.journal.closed
-  pub marked : (place : Change) → IsTrue (is_marked_at store.tables place) → IsTrue (has_entry (since_config store.journal.current) place)
+  pub sound : AreSound (entries_of store) store.tables
+  pub marked : (place : Change) → IsTrue (is_marked_at store.tables place) → IsTrue (has_entry store.journal.current place)
   pub notes : IsTrue store.tables.are_notes_entered → NotesEntered store.journal.current (length store.tables.notes.items)
-  pub fits : Fits (entries_of store) (state_of store)

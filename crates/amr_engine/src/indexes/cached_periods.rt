@@ -1,7 +1,7 @@
 //! What is cached of a label set: when the silences that match it are active. When silences change,
 //! only those are asked that did. `silence_table.rt` keeps one of these for each label set that
 //! flushes asked about.
-ghost use Rattle.std.specs.Prelude.{◌≡◌, ◌≤◌, ◌++◌, ◌∷◌, [], length, OnOk, OnErr, IfOk, IfSome, option_map, if◌then◌else◌, Some, None};
+ghost use Rattle.std.specs.Prelude.{◌≡◌, ◌≤◌, ◌++◌, length, OnOk, OnErr, IfOk, IfSome, if◌then◌else◌, Some, None};
 ghost use Rattle.std.specs.List.{filter};
 ghost use Rattle.std.specs.Ordering.{nat_cmp};
 ghost use Rattle.amr_labels.specs.Map.{get};

@@ -1,6 +1,6 @@
 //! Values of the labels in `equal` of an inhibition rule, under which the rule's sources are
 //! listed.
-ghost use Rattle.std.specs.Prelude.{◌≡◌, [], IfOk, OnOk};
+ghost use Rattle.std.specs.Prelude.{◌≡◌, IfOk};
 ghost use Rattle.amr_labels.specs.Labels.{value_of};
 ghost use Rattle.amr_engine.specs.Indexes.LabelValues.{values_cmp-IsAntisymmetric, label_values};
 

@@ -1,6 +1,6 @@
 //! The silences by id, with what is cached of the label sets that flushes asked about: the periods
 //! of the silences that match them. `store.rt` changes the table and asks it which silence mutes.
-ghost use Rattle.std.specs.Prelude.{◌≡◌, ◌≤◌, [], Some, is_some, OnOk, IfOk, IfSome};
+ghost use Rattle.std.specs.Prelude.{◌≡◌, ◌≤◌, [], Some, is_some, IfOk, IfSome};
 ghost use Rattle.std.specs.Ordering.{nat_cmp};
 ghost use Rattle.amr_labels.specs.Map as map;
 ghost use Rattle.amr_rules.specs.Muting.{is_silenced, silencer_of};

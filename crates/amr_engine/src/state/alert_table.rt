@@ -1,7 +1,7 @@
 //! The stored alerts by label set, with the moment at which each is removed, and with the label sets
 //! that can be sources of inhibition rules. `Store` changes the alerts here, and the moments follow;
 //! inhibition asks for a rule's sources. It neither merges alerts nor decides when one is removed.
-ghost use Rattle.std.specs.Prelude.{◌≡◌, None, Some, option_map, OnOk, IfOk};
+ghost use Rattle.std.specs.Prelude.{◌≡◌, None, Some, option_map, IfOk};
 ghost use Rattle.std.specs.Option.{option_copied};
 ghost use Rattle.amr_labels.specs.Labels.{label_set_cmp};
 ghost use Rattle.amr_labels.specs.Map as map;

@@ -1,17 +1,20 @@
 //! A change of the state: a place, and the value that it gets. `Store` makes changes, and enters for
 //! each the change that leads back into the open record, which undoes the event.
 ghost use Rattle.std.specs.Prelude.{◌≡◌, IfOk};
+ghost use Rattle.amr_labels.specs.Map as map;
+ghost use Rattle.amr_config.specs.RouteLabels.{route_labels_cmp};
+ghost use Rattle.amr_tables.specs.Numbered.{map_of, NoneEntered};
 
 use crate::state::membership::Membership;
 use crate::state::notification::{GroupTimer, LogKey};
-use amr_config::{Config, RouteLabels, Router};
+use crate::state::roster::Roster;
+use amr_config::{Config, RouteLabels};
 use amr_events::posts::SilenceId;
 use amr_labels::{Labels, Shared};
 use amr_rules::{Alert, LogEntry, Silence};
 use amr_time::Moment;
 use std::alloc::{AllocError, Global};
 use std::marker::Model;
-use std::mem;
 
 /// A place of the state and a value for it; `None` leaves the place empty. All entries of a record are
 /// as large as the largest, so what is large is in memory of its own.
@@ -19,8 +22,8 @@ use std::mem;
 pub enum Change {
     /// The moment of the clock.
     OfMoment(Moment),
-    /// The configuration in force, with what is cached under it.
-    OfConfig(BoxedRouter),
+    /// The configuration in force with its groups, which a reload drops.
+    OfRoster(BoxedRoster),
     /// The stored alert with these labels.
     OfAlert(Labels, Option<Shared<Alert>>),
     /// The silence with this id.
@@ -35,37 +38,44 @@ pub enum Change {
     OfNotes(usize),
 }
 
-/// A configuration in memory of its own, with what it caches.
+/// A configuration with its groups, in memory of its own.
 #[derive(Drop)]
-pub struct BoxedRouter {
-    router: Box<Router>,
+pub struct BoxedRoster {
+    roster: Box<Roster>,
 }
 
-impl Model for BoxedRouter {
-    ghost use Rattle.amr_config.specs.Stated.Config.{Config};
+impl Model for BoxedRoster {
+    ghost use Rattle.std.specs.Coded.{codes};
+    ghost use Rattle.amr_labels.specs.Map as map;
+    ghost use Rattle.amr_engine.specs.State.Rostered.{Rostered};
 
-    ghost Value = { Config };
+    ghost Value = { Rostered };
 
-    ghost view = { λ boxed. boxed.router.value };
+    ghost coded = { Prim.hlevel (codes, map.code) };
+
+    ghost view = { λ boxed. boxed.roster.value };
 }
 
-impl BoxedRouter {
-    /// Takes a configuration, of which nothing is cached yet.
-    pub(crate) fn new(alloc: Global, config: Config) -> Result<BoxedRouter, AllocError>
-        ensures { IfOk result (λ boxed. boxed ≡ config) }
+impl BoxedRoster {
+    /// Takes a configuration, under which there are no groups yet.
+    pub(crate) fn new(alloc: Global, config: Config) -> Result<BoxedRoster, AllocError>
+        ensures config { IfOk result (λ boxed. boxed.config ≡ config) }
+        ensures placements { IfOk result (λ boxed.
+            map_of route_labels_cmp boxed.placements ≡ map.empty) }
+        ensures entered { IfOk result (λ boxed. NoneEntered route_labels_cmp boxed.placements) }
+        ensures timers { IfOk result (λ boxed. map_of route_labels_cmp boxed.timers ≡ map.empty) }
+        ensures timers_entered { IfOk result (λ boxed. NoneEntered route_labels_cmp boxed.timers) }
     {
-        Ok(BoxedRouter {
-            router: Box::new(alloc, Router::new(alloc, config))?,
+        Ok(BoxedRoster {
+            roster: Box::new(alloc, Roster::new(alloc, config))?,
         })
     }
 
-    /// Swaps it with the configuration in use, which takes over what patterns answered. It takes no
-    /// memory.
-    pub(crate) fn swap(&mut self, used: &mut Router)
+    /// Swaps it with the roster in use, which takes over what patterns answered. It takes no memory.
+    pub(crate) fn swap(&mut self, used: &mut Roster)
         ensures kept { self.new ≡ used.old }
         ensures used { used.new ≡ self.old }
     {
-        mem::swap(&mut *self.router, used);
-        used.swap_cache(&mut self.router);
+        used.swap(&mut self.roster);
     }
 }

@@ -1,7 +1,6 @@
 //! Pending timers: when a stored alert or an empty group is removed and when a group is flushed,
 //! and how a timer is named. `moves.rt` fires them; nothing is changed here.
-ghost use Rattle.std.specs.Prelude.{◌≡◌, ◌≤◌, ℕ, IfSome};
-ghost use Rattle.amr_time.specs.Time.{latest_read};
+ghost use Rattle.std.specs.Prelude.{◌≡◌};
 ghost use Rattle.amr_engine.specs.State.Dues.{alert_removal_at, group_removal_at};
 
 use crate::state::notification::GroupTimer;

@@ -3,7 +3,7 @@
 ghost use Rattle.std.specs.Prelude.{◌≡◌, ◌<◌, OnOk, IfOk, IfSome};
 ghost use Rattle.amr_engine.specs.State.Records.{after_change};
 ghost use Rattle.amr_engine.specs.State.Fitting.{FitsOne};
-ghost use Rattle.amr_engine.specs.State.Stored.{shown_by, IsEntered, IsPlaceOf, MorePlaces, NoNewMark, SameValues};
+ghost use Rattle.amr_engine.specs.State.Stored.{shown_by, with_roster, IsEntered, IsPlaceOf, IsRoomier, MorePlaces};
 
 use crate::state::change::Change;
 use crate::state::tables::Tables;
@@ -23,12 +23,7 @@ pub(crate) fn make_room(
     requires fits { FitsOne (shown_by tables.old) change.now }
     ensures number { IfOk result (λ number. IsPlaceOf tables.new change.now number) }
     ensures room { OnOk result (0 < journal.new.entry_room) }
-    ensures values { SameValues tables.old tables.new }
-    ensures places { MorePlaces tables.old tables.new }
-    ensures marks { (place : Change) → NoNewMark tables.old tables.new place }
-    ensures closed { journal.new.closed ≡ journal.old.closed }
-    ensures current { journal.new.current ≡ journal.old.current }
-    ensures records { journal.new.record_room ≡ journal.old.record_room }
+    ensures roomier { IsRoomier tables.old journal.old tables.new journal.new }
 {
     let number = match known {
         Some(number) => number,
@@ -51,7 +46,7 @@ pub(crate) fn enter(
     requires number { IsPlaceOf tables.old change number }
     requires fits { FitsOne (shown_by tables.old) change }
     ensures state { shown_by tables.new ≡ after_change (shown_by tables.old) change }
-    ensures places { MorePlaces tables.old tables.new }
+    ensures places { MorePlaces (with_roster tables.old change) tables.new }
     ensures entered { IsEntered tables.old journal.old change tables.new journal.new }
 {
     let was_marked = tables.displace(number, &mut change);

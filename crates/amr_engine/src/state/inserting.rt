@@ -1,7 +1,7 @@
 //! Inserts alerts into their groups, as Alertmanager's dispatcher does: an alert goes to one group
 //! on each route that takes it. A post and a change of the configuration call `insert_into_groups`.
 //! It sets group timers, but flushes nothing.
-ghost use Rattle.std.specs.Prelude.{◌≡◌, ◌+◌, ◌*◌, ◌≤◌, Some, length, true, OnOk, IfOk, nat_lt};
+ghost use Rattle.std.specs.Prelude.{◌≡◌, ◌+◌, ◌*◌, ◌≤◌, Some, length, true, OnOk, nat_lt};
 ghost use Rattle.amr_config.specs.Routing.{chosen_routes};
 ghost use Rattle.amr_config.specs.Groups.{group_at, groups_of};
 ghost use Rattle.amr_labels.specs.Map as map;

@@ -16,7 +16,6 @@ ghost use Rattle.amr_engine.specs.declared.state.due.Kind.TheVariants.{AlertRemo
 ghost use Rattle.amr_engine.specs.State.Timed.{AreNumbered, IsScheduled, IsFirstOfKind, flush_moment, removal_moment, group_moment, timer_of, due_of};
 ghost use Rattle.amr_engine.specs.State.Rostered.{labels_of_members, labels_of_numbered, numbered_labels, with_alert, IsNumbered};
 
-use crate::state::change::BoxedRouter;
 use crate::state::due::{Kind, group_removal};
 use crate::state::members::Member;
 use crate::state::membership::Membership;
@@ -30,6 +29,7 @@ use amr_tables::{Earliest, Grouped, Keyed};
 use amr_time::Moment;
 use std::alloc::{AllocError, Global};
 use std::marker::Model;
+use std::mem;
 
 /// The configuration in force, and the groups with their timers and members. Every change of a
 /// member puts its number into the number of its group, or takes it out, and every change of a timer
@@ -293,16 +293,14 @@ impl Roster {
         was_entered
     }
 
-    /// Swaps the configuration with another, while no group has members. The new one takes over what
+    /// Swaps it with another, which takes over what doesn't depend on the configuration, such as what
     /// patterns answered. It takes no memory.
-    pub(crate) fn swap_config(&mut self, config: &mut BoxedRouter)
-        requires { map_of route_labels_cmp self.old.placements ≡ map.empty }
-        ensures before { config.new ≡ self.old.config }
-        ensures config { self.new.config ≡ config.old }
-        ensures placements { self.new.placements ≡ self.old.placements }
-        ensures timers { self.new.timers ≡ self.old.timers }
+    pub(crate) fn swap(&mut self, other: &mut Roster)
+        ensures here { self.new ≡ other.old }
+        ensures other { other.new ≡ self.old }
     {
-        config.swap(&mut self.config);
+        mem::swap(self, other);
+        self.config.swap_cache(&mut other.config);
     }
 
     /// Swaps the timer of the group with a number, or `None` if it has none, with another, and marks

@@ -3,20 +3,19 @@
 //! event can be undone. It decides nothing about alerts, groups or silences, but it asks `amr_rules`
 //! whether an entry of the notification log is due, and what is stored of a new alert, since it finds
 //! what was there before.
-ghost use Rattle.std.specs.Prelude.{◌≡◌, ◌↔◌, ◌≤◌, ◌<◌, ◌+◌, ◌++◌, ◌∷◌, ◌==◌, [], ℕ, false, Option, Some, None, length, OnOk, IfOk, IfSome};
+ghost use Rattle.std.specs.Prelude.{◌≡◌, ◌↔◌, ◌≤◌, ◌<◌, ◌+◌, ◌++◌, ◌∷◌, ◌==◌, [], false, Option, Some, None, length, OnOk, IfOk, IfSome};
 ghost use Rattle.std.specs.Prelude.{if◌then◌else◌, is_some, option_map, slice_get};
 ghost use Rattle.std.specs.Ordering.{nat_cmp};
 ghost use Rattle.amr_labels.specs.Labels.{label_set_cmp};
 ghost use Rattle.amr_config.specs.Groups.{groups_of};
 ghost use Rattle.amr_config.specs.Stated.RuleMatches.{rule_matches};
 ghost use Rattle.amr_labels.specs.Map as map;
-ghost use Rattle.amr_labels.specs.Map.{len};
 ghost use Rattle.amr_tables.specs.Numbered.{map_of};
 ghost use Rattle.amr_time.specs.Time.{latest_read};
 ghost use Rattle.amr_rules.specs.Alerts.{alert_to_store};
 ghost use Rattle.amr_rules.specs.Muting.{is_silenced, silencer_of};
 ghost use Rattle.amr_config.specs.RouteLabels.{route_labels_cmp};
-ghost use Rattle.amr_engine.specs.State.State.{start, members, group_key, timers_after_flush, log_key_cmp};
+ghost use Rattle.amr_engine.specs.State.State.{start, members, timers_after_flush, log_key_cmp};
 ghost use Rattle.amr_engine.specs.State.Dues.{next_due};
 ghost use Rattle.amr_engine.specs.Calm.{AreNoneRemoved};
 ghost use Rattle.amr_engine.specs.State.Logged.{is_due};
@@ -27,11 +26,10 @@ ghost use Rattle.amr_engine.specs.State.Fitting.{IsAllowed};
 
 use crate::indexes::SilenceTable;
 use crate::state::alert_table::AlertTable;
-use crate::state::change::{BoxedRouter, Change};
+use crate::state::change::{BoxedRoster, Change};
 use crate::state::due::Due;
 use crate::state::entering::{enter, make_room};
 use crate::state::members::Member;
-use crate::state::membership::{Membership, group_key};
 use crate::state::notification::{GroupTimer, LogKey, Notification};
 use crate::state::roster::Roster;
 use crate::state::tables::Tables;
@@ -47,9 +45,9 @@ use std::marker::Model;
 
 /// The state of the replayed instance. Each change enters the one that leads back into the open
 /// record of the journal, so that the event can be undone without taking memory. A record has one
-/// entry for each place: a later change there displaces a value that the same event made. After a
-/// change of the configuration, places are entered again, so that each member is put back under the
-/// configuration that gave it its group.
+/// entry for each place: a later change there displaces a value that the same event made. A change of
+/// the configuration is one of the groups with their members, too: they are put back with the
+/// configuration that gave the members their groups.
 #[derive(Drop)]
 pub struct Store {
     alloc: Global,
@@ -185,6 +183,13 @@ impl Store {
         ensures { option_map length (slice_get self.now.records index) ≡ Some result }
     {
         self.journal.record_len(index)
+    }
+
+    /// Returns whether the open record is empty.
+    fn is_current_empty(&self) -> bool
+        ensures { result ≡ (length self.now.current == 0) }
+    {
+        self.journal.is_current_empty()
     }
 
     // ---- the state
@@ -476,114 +481,15 @@ impl Store {
         Ok(())
     }
 
-    /// Replaces the configuration, and removes all groups and their members.
+    /// Replaces the configuration, and drops all groups with their members, as one value.
     pub fn replace_config(&mut self, config: Config) -> Result<(), AllocError>
         ensures ok { OnOk result (self.new.state
             ≡ record self.old.state
             { config = config; placements = map.empty; timers = map.empty }) }
         ensures kept { before_open_record self.new ≡ before_open_record self.old }
-        ensures grown { GrownBy (1 + len self.old.state.timers + len self.old.state.placements)
-            self.old self.new }
-    {
-        self.clear_placements()?;
-        self.clear_timers()?;
-        self.change_config(config)
-    }
-
-    // ---- shared by the changes
-
-    /// Returns whether the open record is empty.
-    fn is_current_empty(&self) -> bool
-        ensures { result ≡ (length self.now.current == 0) }
-    {
-        self.journal.is_current_empty()
-    }
-
-    /// Returns the group of a label set on a route. It makes no labels anew if the route takes the
-    /// label set, whose groups are cached then.
-    fn group_on(&mut self, route_labels: &RouteLabels) -> Result<RouteLabels, AllocError>
-        ensures group { IfOk result (λ group. group
-            ≡ group_key self.old.state.config route_labels.now) }
-        ensures same { self.new ≡ self.old }
-    {
-        let route = route_labels.route;
-        let number = self.number_of(&route_labels.labels);
-        let groups = self.groups_of(number, &route_labels.labels)?;
-        match group_among(groups.get().as_slice(), route) {
-            Some(group) => group.clone(),
-            None => group_key(self.alloc, self.config(), route, &route_labels.labels),
-        }
-    }
-
-    /// Removes all members of all groups.
-    fn clear_placements(&mut self) -> Result<(), AllocError>
-        ensures ok { OnOk result (self.new.state
-            ≡ record self.old.state { placements = map.empty }) }
-        ensures kept { before_open_record self.new ≡ before_open_record self.old }
-        ensures grown { GrownBy (len self.old.state.placements) self.old self.new }
-    {
-        let placed_keys = keys_of(self.alloc, self.tables.roster.placements())?;
-        for route_labels in &placed_keys {
-            let group = self.group_on(route_labels)?;
-            let member = route_labels.clone()?;
-            self.change(Change::OfMember(Membership { group, member }, None))?;
-        }
-        Ok(())
-    }
-
-    /// Removes all groups with their timers.
-    fn clear_timers(&mut self) -> Result<(), AllocError>
-        ensures ok { OnOk result (self.new.state ≡ record self.old.state { timers = map.empty }) }
-        ensures kept { before_open_record self.new ≡ before_open_record self.old }
-        ensures grown { GrownBy (len self.old.state.timers) self.old self.new }
-    {
-        let groups = keys_of(self.alloc, self.tables.roster.timers())?;
-        for group in &groups {
-            self.change(Change::OfTimer(group.clone()?, None))?;
-        }
-        Ok(())
-    }
-
-    /// Replaces the configuration while no group has members. It clears the marks of all places, so
-    /// that later changes are entered again.
-    fn change_config(&mut self, config: Config) -> Result<(), AllocError>
-        requires { self.old.state.placements ≡ map.empty }
-        ensures ok { OnOk result (self.new.state ≡ record self.old.state { config = config }) }
-        ensures kept { before_open_record self.new ≡ before_open_record self.old }
         ensures grown { GrownBy 1 self.old self.new }
     {
-        self.journal.reserve_entry()?;
-        let mut change = Change::OfConfig(BoxedRouter::new(self.alloc, config)?);
-        self.tables.displace(0, &mut change);
-        self.journal.push(change);
-        self.tables.clear_entered();
-        Ok(())
-    }
-}
-
-/// Returns the keys of a table that have a value.
-fn keys_of<V: Drop>(
-    alloc: Global,
-    table: &Keyed<RouteLabels, V>,
-) -> Result<Vec<RouteLabels>, AllocError>
-    ensures { IfOk result (λ found. found.items ≡ map.keys (map_of route_labels_cmp table.now)) }
-{
-    let mut found = Vec::new(alloc);
-    let sorted = table.sorted(alloc)?;
-    for &(route_labels, _) in sorted.as_slice() {
-        found.push(route_labels.clone()?)?;
-    }
-    Ok(found)
-}
-
-/// Returns the group on a route, given groups in the order of their routes.
-fn group_among(groups: &[RouteLabels], route: usize) -> Option<&RouteLabels>
-    ensures { IfSome result (λ group. (group.now.route ≡ route)
-        × (n : ℕ) × (slice_get groups.now n ≡ Some group.now)) }
-{
-    let at = groups.partition_point(|group| group.route < route);
-    match groups.get(at) {
-        Some(group) if group.route == route => Some(group),
-        _ => None,
+        let roster = BoxedRoster::new(self.alloc, config)?;
+        self.change(Change::OfRoster(roster))
     }
 }

@@ -8,9 +8,9 @@ ghost use Rattle.amr_config.specs.RouteLabels.{route_labels_cmp};
 ghost use Rattle.amr_engine.specs.State.State.{log_key_cmp};
 ghost use Rattle.amr_engine.specs.State.Dues.{dues_of, due_by, least_due};
 ghost use Rattle.amr_engine.specs.Calm.{AreNoneRemoved};
-ghost use Rattle.amr_engine.specs.State.Records.{after_change, change_back};
-ghost use Rattle.amr_engine.specs.State.Fitting.{FitsOne, is_config};
-ghost use Rattle.amr_engine.specs.State.Stored.{shown_by, SameValues, MorePlaces, IsSound, IsPlaceOf, IsUnmarked, NoNewMark, NewMarkAt, is_marked_at};
+ghost use Rattle.amr_engine.specs.State.Records.{after_change};
+ghost use Rattle.amr_engine.specs.State.Fitting.{FitsOne, is_roster};
+ghost use Rattle.amr_engine.specs.State.Stored.{shown_by, change_back, with_roster, SameValues, MorePlaces, IsSound, IsPlaceOf, IsUnmarked, NoNewMark, NewMarkAt, is_marked_at};
 
 use crate::indexes::SilenceTable;
 use crate::state::alert_table::AlertTable;
@@ -28,7 +28,7 @@ use std::mem;
 
 /// The clock, the tables and the notifications. Each table marks the places that the open record
 /// has an entry for. The clock and the notifications are in no table, so their marks are here. The
-/// configuration has no mark: each change of it is entered.
+/// roster has no mark: each change of it is entered.
 #[derive(Drop)]
 pub(crate) struct Tables {
     pub(crate) moment: Moment,
@@ -57,7 +57,7 @@ impl Tables {
             Change::OfMember(member, _) => self.roster.place_member(member),
             Change::OfTimer(group, _) => self.roster.place_group(group),
             Change::OfLog(key, _) => place_log(&mut self.log, key),
-            Change::OfMoment(_) | Change::OfConfig(_) | Change::OfNotes(_) => Ok(0),
+            Change::OfMoment(_) | Change::OfRoster(_) | Change::OfNotes(_) => Ok(0),
         }
     }
 
@@ -72,32 +72,33 @@ impl Tables {
             Change::OfMember(member, _) => number_in(self.roster.placements(), &member.member),
             Change::OfTimer(group, _) => number_in(self.roster.timers(), group),
             Change::OfLog(key, _) => number_in(&self.log, key),
-            Change::OfMoment(_) | Change::OfConfig(_) | Change::OfNotes(_) => 0,
+            Change::OfMoment(_) | Change::OfRoster(_) | Change::OfNotes(_) => 0,
         }
     }
 
     /// Makes a change, given the number of its place, and marks the place. `change` becomes the one
-    /// that leads back. Returns whether the place was marked before. The configuration has no mark.
-    /// It takes no memory.
+    /// that leads back. Returns whether the place was marked before. The roster has no mark. It takes
+    /// no memory.
     #[inline(always)]
     pub(crate) fn displace(&mut self, number: usize, change: &mut Change) -> bool
         requires number { IsPlaceOf self.old change.old number }
         requires fits { FitsOne (shown_by self.old) change.old }
         ensures state { shown_by self.new ≡ after_change (shown_by self.old) change.old }
-        ensures back { change.new ≡ change_back (shown_by self.old) change.old }
+        ensures back { change.new ≡ change_back self.old change.old }
         ensures was_marked { result ≡ is_marked_at self.old change.old }
-        ensures marked { is_marked_at self.new change.old ≡ not (is_config change.old) }
-        ensures places { MorePlaces self.old self.new }
+        ensures marked { is_marked_at self.new change.old ≡ not (is_roster change.old) }
+        ensures places { MorePlaces (with_roster self.old change.old) self.new }
         ensures marks { (place : Change)
-            → NewMarkAt (change_back (shown_by self.old) change.old) self.old self.new place }
+            → NewMarkAt (change_back self.old change.old) (with_roster self.old change.old)
+            self.new place }
     {
         match change {
             Change::OfMoment(at) => {
                 mem::swap(&mut self.moment, at);
                 mem::replace(&mut self.is_moment_entered, true)
             }
-            Change::OfConfig(config) => {
-                self.roster.swap_config(config);
+            Change::OfRoster(roster) => {
+                roster.swap(&mut self.roster);
                 false
             }
             Change::OfAlert(_, alert) => self.alerts.swap_at(number, alert),

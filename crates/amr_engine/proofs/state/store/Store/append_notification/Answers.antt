@@ -4,10 +4,21 @@ use Rattle.amr_engine.specs.declared.state.change.Change.TheVariants.{OfNotes}
 use Rattle.amr_engine.specs.State.Kept.{before_open_record}
 use Rattle.amr_engine.specs.declared.state.store.Store.TheInside.{Inside}
 use Rattle.amr_engine.specs.State.Stored.{state_of, kept_of, NewMarkAt, IsKept}
-use Rattle.amr_engine.proofs.StateLemmas.Soundness.{by_place, kept_same, kept_pushed, undone_appended, undone_noted, more_notes}
+use Rattle.amr_engine.proofs.StateLemmas.Soundness.{by_place, kept_still, kept_pushed, kept_reserved, undone_appended, undone_noted, more_notes}
 use Rattle.amr_engine.proofs.StateLemmas.Undoing.{notes_entered-last}
 use Rattle.amr_engine.proofs.state.store.Store.append_notification.Goals as goal
 use Rattle.amr_engine.proofs.state.store.Store.append_notification.Goals.{then-not-self+in_ok-reserve_entry, else-not-self}
+
+pub invariant_of-self : goal.invariant_of-self
+invariant_of-self c =
+    let a = c.self.inside in
+    kept_reserved a (record a { tables = record a.tables { notes = c.reserve.new.self } }) c.self.invariant c.reserve.ensures.items refl refl
+
+pub invariant_of-self-in_err-reserve_entry : goal.invariant_of-self-in_err-reserve_entry
+invariant_of-self-in_err-reserve_entry c =
+    let a = c.self.inside in
+    kept_reserved a (record a { tables = record a.tables { notes = c.reserve.new.self }; journal = c.reserve_entry.new.self }) c.self.invariant c.reserve.ensures.items
+    c.reserve_entry.ensures.closed c.reserve_entry.ensures.current
 
 pub invariant_of-self-2 : goal.invariant_of-self-2
 invariant_of-self-2 c =
@@ -23,15 +34,15 @@ invariant_of-self-2 c =
           let all : c.push_reserved.new.self.items ≡ a.tables.notes.items ++ notification ∷ [] = items ∙ ap (λ (x : Inside). x.tables.notes.items ++ notification ∷ []) w.self-inside-is ∙ ap (λ xs. xs ++ notification ∷ []) c.reserve.ensures.items in
           let count : w.len.result ≡ length a.tables.notes.items = w.len.ensures ∙ n.ok.0 ∙ ap length c.reserve.ensures.items in
           subst (λ x. IsKept (record x { tables = record x.tables { notes = c.push_reserved.new.self } })) (sym w.self-inside-is) (
-          kept_pushed a b e c.self.invariant (record { alerts = λ k h. h; silences = λ k h. h; placements = λ k h. h; timers = λ k h. h; log = λ k h. h }) c.self.invariant.moment (w.push.ensures.closed ∙ w.reserve_entry.ensures.closed)
+          kept_pushed a b e c.self.invariant (record { config = refl; alerts = λ k h. h; silences = λ k h. h; placements = λ k h. h; timers = λ k h. h; log = λ k h. h }) c.self.invariant.moment (w.push.ensures.closed ∙ w.reserve_entry.ensures.closed)
           (pushed ∙ ap (λ es. es ++ e ∷ []) w.reserve_entry.ensures.current) tt
           (by_place (NewMarkAt (OfNotes w.len.result) a.tables b.tables) (λ x h. h) (λ x h. h) (λ k v h. h) (λ k v h. h) (λ k v h. h) (λ k v h. h) (λ k v h. h) (λ x h. refl))
-          (λ _. notes_entered-last a.journal.current w.len.result (length b.tables.notes.items) (subst (λ k. k ≤ length b.tables.notes.items) (sym count) (more_notes a.tables.notes.items b.tables.notes.items notification all))) refl (refl, refl) tt)
+          (λ _. notes_entered-last a.journal.current w.len.result (length b.tables.notes.items) (subst (λ k. k ≤ length b.tables.notes.items) (sym count) (more_notes a.tables.notes.items b.tables.notes.items notification all))))
       | else-not-self w ↦
           let b : Inside = record a { tables = record a.tables { notes = c.push_reserved.new.self } } in
           let all : c.push_reserved.new.self.items ≡ a.tables.notes.items ++ notification ∷ [] = items ∙ ap (λ (x : Inside). x.tables.notes.items ++ notification ∷ []) w.self-inside-is ∙ ap (λ xs. xs ++ notification ∷ []) c.reserve.ensures.items in
           subst (λ x. IsKept (record x { tables = record x.tables { notes = c.push_reserved.new.self } })) (sym w.self-inside-is) (
-          kept_same a b c.self.invariant (record { alerts = λ k h. h; silences = λ k h. h; placements = λ k h. h; timers = λ k h. h; log = λ k h. h }) c.self.invariant.moment refl refl (λ place h. h) (more_notes a.tables.notes.items b.tables.notes.items notification all) (refl, refl))
+          kept_still a b c.self.invariant (record { config = refl; alerts = λ k h. h; silences = λ k h. h; placements = λ k h. h; timers = λ k h. h; log = λ k h. h }) c.self.invariant.moment refl refl (λ place h. h) (more_notes a.tables.notes.items b.tables.notes.items notification all))
     ]
 
 pub returns-clause-kept : goal.returns-clause-kept

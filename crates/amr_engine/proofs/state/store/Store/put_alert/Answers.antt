@@ -1,33 +1,18 @@
 use Rattle.std.proofs.Common.{Some, ap, ◌∙◌}
-use Rattle.amr_engine.specs.declared.state.change.Change.{Change}
 use Rattle.amr_engine.specs.declared.state.change.Change.TheVariants.{OfAlert}
 use Rattle.amr_engine.specs.State.Kept.{before_open_record}
-use Rattle.amr_engine.specs.declared.state.store.Store.TheInside.{Inside}
-use Rattle.amr_engine.proofs.StateLemmas.Soundness.{kept_placed, kept_changed, undone_placed, undone_changed}
+use Rattle.amr_engine.proofs.StateLemmas.Soundness.{kept_roomier, kept_put, undone_put}
 use Rattle.amr_engine.proofs.state.store.Store.put_alert.Goals as goal
 
 pub invariant_of-self : goal.invariant_of-self
-invariant_of-self c =
-    let made = c.make_room in
-    kept_placed c.self.inside made.new.tables made.new.journal c.self.invariant made.ensures.values made.ensures.places made.ensures.marks made.ensures.closed made.ensures.current
+invariant_of-self c = kept_roomier c.self.inside c.make_room.new.tables c.make_room.new.journal c.self.invariant c.make_room.ensures.roomier
 
 pub invariant_of-self-2 : goal.invariant_of-self-2
 invariant_of-self-2 c =
-    let a = c.self.inside in
-    let made = c.make_room in
-    let change : Change = OfAlert c.in_ok-clone.field-0 (Some c.in_ok-clone-2.field-0) in
-    let mid : Inside = record a { tables = made.new.tables; journal = made.new.journal } in
-    let b : Inside = record a { tables = c.enter.new.tables; journal = c.enter.new.journal } in
-    let kept = kept_placed a made.new.tables made.new.journal c.self.invariant made.ensures.values made.ensures.places made.ensures.marks made.ensures.closed made.ensures.current in
-    kept_changed mid b change c.in_ok-number.number kept tt c.in_ok-number.ensures.number c.enter.ensures.places c.enter.ensures.state c.enter.ensures.entered
+    kept_put c.self.inside c.make_room.new.tables c.enter.new.tables c.make_room.new.journal c.enter.new.journal (OfAlert c.in_ok-clone.field-0 (Some c.in_ok-clone-2.field-0)) c.self.invariant c.make_room.ensures.roomier tt
+    c.enter.ensures.state c.enter.ensures.entered c.in_ok-number.number c.in_ok-number.ensures.number c.enter.ensures.places
 
 pub returns-clause-kept : goal.returns-clause-kept
 returns-clause-kept c =
-    let a = c.self.inside in
-    let made = c.make_room in
-    let change : Change = OfAlert c.in_ok-clone.field-0 (Some c.in_ok-clone-2.field-0) in
-    let mid : Inside = record a { tables = made.new.tables; journal = made.new.journal } in
-    let b : Inside = record a { tables = c.enter.new.tables; journal = c.enter.new.journal } in
-    let kept = kept_placed a made.new.tables made.new.journal c.self.invariant made.ensures.values made.ensures.places made.ensures.marks made.ensures.closed made.ensures.current in
-    undone_changed mid b change kept tt c.enter.ensures.state c.enter.ensures.entered
-    ∙ undone_placed a made.new.tables made.new.journal made.ensures.values made.ensures.closed made.ensures.current made.ensures.records ∙ ap before_open_record c.self.view_is
+    undone_put c.self.inside c.make_room.new.tables c.enter.new.tables c.make_room.new.journal c.enter.new.journal (OfAlert c.in_ok-clone.field-0 (Some c.in_ok-clone-2.field-0)) c.self.invariant c.make_room.ensures.roomier tt
+    c.enter.ensures.state c.enter.ensures.entered ∙ ap before_open_record c.self.view_is

@@ -1,14 +1,16 @@
 use Rattle.std.proofs.Common.{ap, ◌∙◌}
 use Rattle.amr_engine.specs.State.Kept.{before_open_record}
 use Rattle.amr_engine.specs.declared.state.store.Store.TheInside.{Inside}
-use Rattle.amr_engine.proofs.StateLemmas.Soundness.{last_is_sound, last_fits, kept_undone, undone_popped, same_state, more_still}
+use Rattle.amr_engine.specs.State.Stored.{with_roster}
+use Rattle.amr_engine.proofs.StateLemmas.Soundness.{last_is_sound, fits_sound, kept_undone, undone_popped, same_state, more_still}
 use Rattle.amr_engine.proofs.state.store.Store.undo_entry.Goals as goal
 
 pub find-number-requires : goal.find-number-requires
 find-number-requires c = last_is_sound c.self.inside c.pop-back.new.self.current c.pop-back.result c.self.invariant c.pop-back.ensures.current
 
 pub displace-requires-clause-fits : goal.displace-requires-clause-fits
-displace-requires-clause-fits c = last_fits c.self.inside c.pop-back.new.self.current c.pop-back.result c.self.invariant c.pop-back.ensures.current
+displace-requires-clause-fits c =
+    fits_sound c.self.inside.tables c.pop-back.result (last_is_sound c.self.inside c.pop-back.new.self.current c.pop-back.result c.self.invariant c.pop-back.ensures.current)
 
 pub invariant_of-self : goal.invariant_of-self
 invariant_of-self c =
@@ -16,7 +18,7 @@ invariant_of-self c =
     let t = c.displace.new.self in
     let u = c.clear_entered.new.self in
     let b : Inside = record a { tables = u; journal = c.pop-back.new.self } in
-    kept_undone a b c.pop-back.result c.self.invariant (more_still a.tables t u c.displace.ensures.places c.clear_entered.ensures.places) c.clear_entered.ensures.marks
+    kept_undone a b c.pop-back.result c.self.invariant (more_still (with_roster a.tables c.pop-back.result) t u c.displace.ensures.places c.clear_entered.ensures.places) c.clear_entered.ensures.marks
     c.pop-back.ensures.closed c.pop-back.ensures.current (same_state t u c.clear_entered.ensures.values ∙ c.displace.ensures.state)
 
 pub returns-clause-kept : goal.returns-clause-kept

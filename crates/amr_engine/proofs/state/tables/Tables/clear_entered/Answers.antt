@@ -5,6 +5,7 @@ use Rattle.amr_engine.proofs.state.tables.Tables.clear_entered.Goals as goal
 
 pub returns-clause-places : goal.returns-clause-places
 returns-clause-places c = record {
+  config = c.clear_entered-3.ensures.config;
   alerts = λ k h. subst IsTrue (sym (c.clear_entered.ensures.places k)) h;
   silences = λ k h. subst IsTrue (sym (c.clear_entered-2.ensures.places k)) h;
   placements = λ k h. subst IsTrue (sym (c.clear_entered-3.ensures.places k)) h;

@@ -1,4 +1,4 @@
-use Rattle.std.proofs.Common.{◌≡◌, ℕ, true, IsTrue, Some, subst, sym, ap, ◌∙◌, not}
+use Rattle.std.proofs.Common.{◌≡◌, ℕ, true, IsTrue, Some, refl, subst, sym, ap, ◌∙◌, not}
 use Rattle.std.specs.Prelude.{◌||◌}
 use Rattle.std.specs.declared.cmp.Ordering.{Ordering}
 use Rattle.std.specs.Ordering.{is_eq}
@@ -9,9 +9,9 @@ use Rattle.amr_engine.specs.declared.state.change.Change.TheVariants.{OfLog}
 use Rattle.amr_engine.specs.declared.state.tables.Tables.{Tables}
 use Rattle.amr_config.specs.RouteLabels.{route_labels_cmp, route_labels_cmp_total}
 use Rattle.amr_engine.specs.State.State.{member_on_route, log_key_cmp, log_key_cmp_total}
-use Rattle.amr_engine.specs.State.Records.{after_change, change_back}
-use Rattle.amr_engine.specs.State.Fitting.{is_config}
-use Rattle.amr_engine.specs.State.Stored.{shown_by, IsPlaceOf, is_marked_at}
+use Rattle.amr_engine.specs.State.Records.{after_change}
+use Rattle.amr_engine.specs.State.Fitting.{is_roster}
+use Rattle.amr_engine.specs.State.Stored.{shown_by, change_back, with_roster, MorePlaces, IsPlaceOf, is_marked_at}
 use Rattle.amr_engine.proofs.state.tables.Tables.displace.Goals as goal
 
 pub swap_at-requires : goal.swap_at-requires
@@ -30,28 +30,28 @@ marked_now R o old changed n key enters at = enters key at key ∙ ap (λ r. is_
 pub returns-in-OfAlert-clause-marked : goal.returns-in-OfAlert-clause-marked
 returns-in-OfAlert-clause-marked c =
     let after : Tables = record c.args.self.now { alerts = c.swap_at.new.self } in
-    subst (λ e. is_marked_at after e ≡ not (is_config e)) (sym c.in-OfAlert.is)
+    subst (λ e. is_marked_at after e ≡ not (is_roster e)) (sym c.in-OfAlert.is)
     (marked_now label_set_cmp label_set_cmp_total c.args.self.now.alerts c.swap_at.new.self c.args.number c.in-OfAlert.field-0 c.swap_at.ensures.entered
     (subst (λ e. IsPlaceOf c.args.self.now e c.args.number) c.in-OfAlert.is c.requires.number))
 
 pub returns-in-OfMember-clause-marked : goal.returns-in-OfMember-clause-marked
 returns-in-OfMember-clause-marked c =
     let after : Tables = record c.args.self.now { roster = c.swap_member.new.self } in
-    subst (λ e. is_marked_at after e ≡ not (is_config e)) (sym c.in-OfMember.is)
+    subst (λ e. is_marked_at after e ≡ not (is_roster e)) (sym c.in-OfMember.is)
     (marked_now route_labels_cmp route_labels_cmp_total c.args.self.now.roster.placements c.swap_member.new.self.placements c.args.number (member_on_route c.in-OfMember.member) c.swap_member.ensures.entered
     (subst (λ e. IsPlaceOf c.args.self.now e c.args.number) c.in-OfMember.is c.requires.number).0)
 
 pub returns-in-OfTimer-clause-marked : goal.returns-in-OfTimer-clause-marked
 returns-in-OfTimer-clause-marked c =
     let after : Tables = record c.args.self.now { roster = c.swap_timer.new.self } in
-    subst (λ e. is_marked_at after e ≡ not (is_config e)) (sym c.in-OfTimer.is)
+    subst (λ e. is_marked_at after e ≡ not (is_roster e)) (sym c.in-OfTimer.is)
     (marked_now route_labels_cmp route_labels_cmp_total c.args.self.now.roster.timers c.swap_timer.new.self.timers c.args.number c.in-OfTimer.field-0 c.swap_timer.ensures.entered
     (subst (λ e. IsPlaceOf c.args.self.now e c.args.number) c.in-OfTimer.is c.requires.number))
 
 pub returns-in-OfLog-clause-marked : goal.returns-in-OfLog-clause-marked
 returns-in-OfLog-clause-marked c =
     let after : Tables = record c.args.self.now { log = c.swap_at-in-OfLog.new.self } in
-    subst (λ e. is_marked_at after e ≡ not (is_config e)) (sym c.in-OfLog.is)
+    subst (λ e. is_marked_at after e ≡ not (is_roster e)) (sym c.in-OfLog.is)
     (marked_now log_key_cmp log_key_cmp_total c.args.self.now.log c.swap_at-in-OfLog.new.self c.args.number c.in-OfLog.field-0 c.swap_at-in-OfLog.ensures.entered
     (subst (λ e. IsPlaceOf c.args.self.now e c.args.number) c.in-OfLog.is c.requires.number))
 
@@ -65,7 +65,7 @@ returns-in-OfLog-clause-state c =
 
 pub returns-in-OfLog-clause-back : goal.returns-in-OfLog-clause-back
 returns-in-OfLog-clause-back c =
-    subst (λ e. OfLog c.in-OfLog.field-0 c.swap_at-in-OfLog.new.value ≡ change_back (shown_by c.args.self.now) e) (sym c.in-OfLog.is)
+    subst (λ e. OfLog c.in-OfLog.field-0 c.swap_at-in-OfLog.new.value ≡ change_back c.args.self.now e) (sym c.in-OfLog.is)
     (ap (λ value. OfLog c.in-OfLog.field-0 value)
     (c.swap_at-in-OfLog.ensures.former c.in-OfLog.field-0 (subst (λ e. IsPlaceOf c.args.self.now e c.args.number) c.in-OfLog.is c.requires.number)))
 
@@ -75,10 +75,13 @@ returns-in-OfLog-clause-was_marked c =
     (c.swap_at-in-OfLog.ensures.was_entered c.in-OfLog.field-0 (subst (λ e. IsPlaceOf c.args.self.now e c.args.number) c.in-OfLog.is c.requires.number))
 
 pub returns-in-OfLog-clause-places : goal.returns-in-OfLog-clause-places
-returns-in-OfLog-clause-places c = record {
-  alerts = λ k h. h;
-  silences = λ k h. h;
-  placements = λ k h. h;
-  timers = λ k h. h;
-  log = λ k h. subst IsTrue (sym (c.swap_at-in-OfLog.ensures.places k)) h;
-}
+returns-in-OfLog-clause-places c =
+    let after : Tables = record c.args.self.now { log = c.swap_at-in-OfLog.new.self } in
+    subst (λ e. MorePlaces (with_roster c.args.self.now e) after) (sym c.in-OfLog.is) (record {
+      config = refl;
+      alerts = λ k h. h;
+      silences = λ k h. h;
+      placements = λ k h. h;
+      timers = λ k h. h;
+      log = λ k h. subst IsTrue (sym (c.swap_at-in-OfLog.ensures.places k)) h;
+    })
