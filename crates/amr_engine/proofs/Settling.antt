@@ -1,5 +1,5 @@
 -- What an event leaves in the store: its record is closed if it is accepted, and else put back.
-use Rattle.std.specs.Prelude.{◌≡◌, ℕ, Bool, true, false, if◌then◌else◌, List, [], ◌∷◌, ◌++◌, length, ◌<◌, ◌≤◌, ◌*◌}
+use Rattle.std.specs.Prelude.{◌≡◌, ℕ, true, if◌then◌else◌, List, [], ◌∷◌, ◌++◌, length, ◌<◌, ◌≤◌, ◌*◌}
 use Rattle.std.proofs.Common.{sym, ap, subst, ◌∙◌, arith}
 use Rattle.std.proofs.lemmas.List.{nil_from_length}
 use Rattle.amr_events.specs.Actions.Events.{Event, is_label}
@@ -7,44 +7,38 @@ use Rattle.amr_engine.specs.declared.state.change.Change.{Change}
 use Rattle.amr_engine.specs.State.State.{State}
 use Rattle.amr_engine.specs.State.Kept.{Kept, before_open_record}
 use Rattle.amr_engine.specs.State.Records.{put_back, befores}
-use Rattle.amr_engine.proofs.StateLemmas.Undoing.{befores_push, length-befores, undone-idle, undone-undone}
+use Rattle.amr_engine.proofs.StateLemmas.Undoing.{befores_push, length-befores, undone-idle}
 use Rattle.amr_engine.specs.Events.{after_event}
-use Rattle.amr_engine.specs.Applied.{Leads}
-use Rattle.amr_engine.specs.Kept.{IsEmptyIfRefused, IsLightIfAccepted}
+use Rattle.amr_engine.specs.Kept.{IsEmptyIfRefused, IsLight, Settled}
 use Rattle.amr_engine.specs.Weight.{run_weight, event_weight}
-use Rattle.amr_engine.specs.Refusals.{is_refused}
+use Rattle.amr_events.specs.declared.posts.reason.Reason.{Reason}
 use Rattle.amr_engine.specs.declared.outcome.Outcome.{Outcome}
-use Rattle.amr_engine.specs.declared.outcome.Outcome.TheVariants.{Accepted, Refused}
-
-abbrev pub IsLeft : Bool → Kept → Kept → Type 0
-IsLeft true tried left = left ≡ before_open_record tried
-IsLeft false tried left = left ≡ tried
-
--- the store that an event leaves; its open record leads back to the store before
-pub record Settled (event : Event) (begun left : Kept) (outcome : Outcome) : Type 0 where
-  pub undone_is : before_open_record left ≡ begun
-  pub state : left.state ≡ after_event begun.state event
-  pub empty : IsEmptyIfRefused outcome left.current
-  pub short : length left.current ≤ 4 * event_weight begun.state event left.state
+use Rattle.amr_engine.specs.declared.outcome.Outcome.TheVariants.{Refused}
 
 no_current : (a b : Kept) → a ≡ before_open_record b → a.current ≡ []
 unfolding before_open_record
 no_current a b e = ap (λ (k : Kept). k.current) e
 
-pub settled : (event : Event) (begun tried left : Kept) (outcome : Outcome) → begun.current ≡ [] → Leads begun.state event tried.state outcome → before_open_record tried ≡ before_open_record begun
-    → IsLightIfAccepted begun event tried outcome → IsLeft (is_refused outcome) tried left → Settled event begun left outcome
-settled event begun tried left (Accepted moves notes skipped) idle leads kept light is = record {
-  undone_is = ap before_open_record is ∙ kept ∙ undone-idle begun idle;
-  state = ap (λ (k : Kept). k.state) is ∙ leads.state;
-  empty = tt;
-  short = subst (λ (k : Kept). length k.current ≤ 4 * event_weight begun.state event k.state) (sym is) (omega (arith, ap length idle, light));
+pub settled_done : (begun : Kept) (event : Event) (left : Kept) (outcome : Outcome) → begun.current ≡ [] → IsEmptyIfRefused outcome left.current → left.state ≡ after_event begun.state event
+    → before_open_record left ≡ before_open_record begun → IsLight begun event left → Settled begun event left outcome
+settled_done begun event left outcome idle empty state kept light = record {
+  undone_is = kept ∙ undone-idle begun idle;
+  state = state;
+  empty = empty;
+  short = omega (arith, ap length idle, light);
 }
-settled event begun tried left (Refused reason) idle leads kept light is = record {
-  undone_is = ap before_open_record is ∙ undone-undone tried ∙ kept ∙ undone-idle begun idle;
-  state = ap (λ (k : Kept). k.state) (is ∙ kept ∙ undone-idle begun idle) ∙ leads.state;
-  empty = no_current left tried is;
-  short = omega (arith, ap length (no_current left tried is));
-}
+
+-- a refused event is undone
+pub settled_undone : (begun : Kept) (event : Event) (tried left : Kept) (reason : Reason) → begun.current ≡ [] → begun.state ≡ after_event begun.state event → before_open_record tried ≡ before_open_record begun
+    → left ≡ before_open_record tried → Settled begun event left (Refused reason)
+settled_undone begun event tried left reason idle state kept is =
+    let whole : left ≡ begun = is ∙ kept ∙ undone-idle begun idle in
+    record {
+      undone_is = ap before_open_record whole ∙ undone-idle begun idle;
+      state = ap (λ (k : Kept). k.state) whole ∙ state;
+      empty = no_current left tried is;
+      short = omega (arith, ap length (no_current left tried is));
+    }
 
 -- the record of a label is empty
 pub label_entryless : (s after : State) (event : Event) (r : List Change) → length r ≤ 4 * event_weight s event after → is_label event.act ≡ true → r ≡ []

@@ -9,9 +9,7 @@ use Rattle.amr_engine.specs.State.Dues.{Due}
 use Rattle.amr_engine.specs.State.State.{State}
 use Rattle.amr_engine.specs.declared.apply.Done.{Done}
 use Rattle.amr_engine.specs.Events.{Outcome, after_event, outcome_of, at_moment}
-use Rattle.amr_engine.specs.Outcomes.{acceptance, refusal, outcome_view}
-use Rattle.amr_engine.specs.declared.outcome.Outcome as code_outcome
-use Rattle.amr_engine.specs.declared.outcome.Outcome.TheVariants.{Accepted, Refused}
+use Rattle.amr_engine.specs.Outcomes.{acceptance, refusal}
 
 -- the number of the moves, and the state after them with the clock at the moment
 abbrev pub run_moved : Moment → Option (List Due × State) → Option (ℕ × State)
@@ -36,12 +34,3 @@ answer_of s next (Err reason) = refusal (reason_number reason)
 -- what was done and the next state are what the event leads to
 abbrev pub IsDone : State → Event → State → Result Done code.Reason → Type 0
 IsDone s event next done = ComesTo s event (state_left s next done) (answer_of s next done)
-
--- the state that an outcome leaves: the next one if the event is accepted, and else the one before
-abbrev pub state_after : State → State → code_outcome.Outcome → State
-state_after s next (Accepted moves notes skipped) = next
-state_after s next (Refused reason) = s
-
--- the outcome, with the next state if it accepts the event, is what the event leads to
-abbrev pub Leads : State → Event → State → code_outcome.Outcome → Type 0
-Leads s event next outcome = ComesTo s event (state_after s next outcome) (outcome_view outcome)

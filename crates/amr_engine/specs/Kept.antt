@@ -3,9 +3,10 @@ use Rattle.std.specs.Prelude.{◌≡◌, true, ◌≤◌, ◌*◌, List, [], ◌
 use Rattle.amr_events.specs.Actions.Events.{Event, is_label}
 use Rattle.amr_events.specs.declared.posts.reason.Reason.{Reason}
 use Rattle.amr_engine.specs.declared.state.change.Change.{Change}
-use Rattle.amr_engine.specs.State.Kept.{Kept, GrownBy}
+use Rattle.amr_engine.specs.State.Kept.{Kept, GrownBy, before_open_record}
 use Rattle.amr_engine.specs.State.Records.{put_back}
 use Rattle.amr_engine.specs.State.Steps.{Steps}
+use Rattle.amr_engine.specs.Events.{after_event}
 use Rattle.amr_engine.specs.Weight.{event_weight}
 use Rattle.amr_engine.specs.declared.apply.Done.{Done}
 use Rattle.amr_engine.specs.declared.outcome.Outcome.{Outcome}
@@ -36,6 +37,10 @@ abbrev pub IsLightIfDone : Kept → Event → Kept → Result Done Reason → Ty
 IsLightIfDone before event after (Ok done) = IsLight before event after
 IsLightIfDone before event after (Err reason) = Unit {0}
 
-abbrev pub IsLightIfAccepted : Kept → Event → Kept → Outcome → Type 0
-IsLightIfAccepted before event after (Accepted moves notes skipped) = IsLight before event after
-IsLightIfAccepted before event after (Refused reason) = Unit {0}
+-- what an event leaves: its open record leads back to the store before, and is empty if the event is
+-- refused
+pub record Settled (begun : Kept) (event : Event) (left : Kept) (outcome : Outcome) : Type 0 where
+  pub undone_is : before_open_record left ≡ begun
+  pub state : left.state ≡ after_event begun.state event
+  pub empty : IsEmptyIfRefused outcome left.current
+  pub short : length left.current ≤ 4 * event_weight begun.state event left.state

@@ -1,18 +1,18 @@
 //! One event, applied in place: whether it is refused, the moves that are due before it, and its
-//! action. `Engine::apply_noting` calls `attempt` with an open record, and puts the record back if
-//! the event is refused or memory runs out. Nothing here undoes a change.
-ghost use Rattle.std.specs.Prelude.{◌≡◌, ◌≤◌, ◌+◌, ◌*◌, OnOk, IfOk, length, drop};
+//! action. `Engine::apply_noting` calls `attempt` with an empty open record, and puts the record back
+//! if memory runs out.
+ghost use Rattle.std.specs.Prelude.{◌≡◌, ◌≤◌, ◌+◌, ◌*◌, [], OnOk, IfOk, drop};
 ghost use Rattle.amr_time.specs.Time.{latest_read};
 ghost use Rattle.amr_engine.specs.State.Kept.{GrownBy, before_open_record};
 ghost use Rattle.amr_engine.specs.CachedQuiet.{IsTrueOf};
 ghost use Rattle.amr_engine.specs.Moves.{advance, moves_to};
-ghost use Rattle.amr_engine.specs.Events.{move_limit};
-ghost use Rattle.amr_engine.specs.Outcomes.{acceptance, outcome_view};
-ghost use Rattle.amr_engine.specs.Applied.{Leads, IsDone, run_moved};
+ghost use Rattle.amr_engine.specs.Events.{move_limit, outcome_of};
+ghost use Rattle.amr_engine.specs.Outcomes.{outcome_view};
+ghost use Rattle.amr_engine.specs.Applied.{IsDone, run_moved};
 ghost use Rattle.amr_engine.specs.Prepared.{after_prepared, skipped_by, entries_of};
 ghost use Rattle.amr_engine.specs.Weight.{first_weight};
 ghost use Rattle.amr_engine.specs.QuietMoves.{AreQuietMoves};
-ghost use Rattle.amr_engine.specs.Kept.{IsLightIfDone, IsLightIfAccepted};
+ghost use Rattle.amr_engine.specs.Kept.{IsLightIfDone, Settled};
 
 use crate::moves::advance;
 use crate::outcome::Outcome;
@@ -29,8 +29,8 @@ use amr_labels::{Listing, Shared};
 use amr_time::Moment;
 use std::alloc::{AllocError, Global};
 
-/// Applies an event to the store in place. If the event is refused, or an allocation fails, the
-/// store is left half-changed. The caller must then put the open record back and clear
+/// Applies an event to the store in place. A refused event is undone. If an allocation fails, the
+/// store is left half-changed: the caller must then put the open record back and clear
 /// `quiet_groups`, which is what the engine caches of quiet groups. What `quiet_moves` holds and
 /// notes is true of the state before the event.
 pub(crate) fn attempt(
@@ -39,20 +39,31 @@ pub(crate) fn attempt(
     quiet_moves: &mut QuietMoves,
     event: &Event,
 ) -> Result<Outcome, AllocError>
+    requires empty { store.old.current ≡ [] }
     requires cache { IsTrueOf quiet_groups.old store.old.state }
     requires quiet { AreQuietMoves quiet_moves.old store.old.state }
-    ensures outcome { IfOk result
-        (λ outcome. Leads store.old.state event.now store.new.state outcome) }
+    ensures outcome { IfOk result (λ outcome. outcome_view outcome
+        ≡ outcome_of store.old.state event.now) }
+    ensures settled { IfOk result (λ outcome. Settled store.old event.now store.new outcome) }
     ensures kept { before_open_record store.new ≡ before_open_record store.old }
-    ensures light { IfOk result (λ outcome.
-        IsLightIfAccepted store.old event.now store.new outcome) }
     ensures cache { OnOk result (IsTrueOf quiet_groups.new store.new.state) }
     ensures quiet { AreQuietMoves quiet_moves.new store.old.state }
 {
     let earlier = store.notes().len();
     match apply_in_order(store, quiet_groups, quiet_moves, event)? {
-        Ok(done) => accepted(store, earlier, done),
-        Err(reason) => Ok(Outcome::Refused(reason)),
+        Ok(done) => {
+            let notes = notes_from(store.alloc(), store.notes(), earlier)?;
+            Ok(Outcome::Accepted {
+                moves: done.moves,
+                notes,
+                skipped: done.skipped,
+            })
+        }
+        Err(reason) => {
+            store.undo_open();
+            quiet_groups.clear();
+            Ok(Outcome::Refused(reason))
+        }
     }
 }
 
@@ -163,20 +174,6 @@ fn perform(
         Prepared::Tick => {}
     }
     Ok(Listing::new(store.alloc()))
-}
-
-/// Returns the outcome of an accepted event. `earlier` is how many notifications the transcript had
-/// before it.
-fn accepted(store: &Store, earlier: usize, done: Done) -> Result<Outcome, AllocError>
-    ensures { IfOk result (λ outcome. outcome_view outcome
-        ≡ acceptance done.moves (drop earlier store.now.state.notes) done.skipped) }
-{
-    let notes = notes_from(store.alloc(), store.notes(), earlier)?;
-    Ok(Outcome::Accepted {
-        moves: done.moves,
-        notes,
-        skipped: done.skipped,
-    })
 }
 
 /// Returns the notifications of the transcript from an index on.

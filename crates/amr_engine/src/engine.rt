@@ -2,11 +2,10 @@
 //! runs apply events through it; nothing else changes a state.
 ghost use Rattle.std.specs.Prelude.{◌≡◌, ◌<◌, List, [], ◌∷◌, ◌++◌, length, IfOk, OnOk, OnErr, Some, option_map, slice_get};
 ghost use Rattle.amr_engine.specs.State.State.{start};
-ghost use Rattle.amr_engine.specs.State.Records.{put_back};
 ghost use Rattle.amr_engine.specs.declared.state.change.Change.{Change};
 ghost use Rattle.amr_engine.specs.Events.{after_event, outcome_of, without_notifications};
 ghost use Rattle.amr_engine.specs.Outcomes.{outcome_view};
-ghost use Rattle.amr_engine.specs.Kept.{Records, RecordOf};
+ghost use Rattle.amr_engine.specs.Kept.{RecordOf};
 ghost use Rattle.amr_engine.specs.QuietMoves.{AreQuietMoves};
 ghost use Rattle.amr_engine.specs.Explain.{verdicts};
 ghost use Rattle.amr_engine.specs.Placed.{ArePlaced, HasTimers, AreListed};
@@ -104,10 +103,6 @@ impl Engine {
         self.store.begin()?;
         match attempt(&mut self.store, &mut self.quiet_groups, quiet_moves, event) {
             Ok(outcome) => {
-                if outcome.is_refused() {
-                    self.store.undo_open();
-                    self.quiet_groups.clear();
-                }
                 self.store.close();
                 Ok(outcome)
             }

@@ -1,7 +1,5 @@
 //! The outcome of an event. Sessions and runs print it; what the event did to the state is in the
 //! store.
-ghost use Rattle.std.specs.Prelude.{◌≡◌};
-
 use crate::state::Notification;
 use amr_events::posts::Reason;
 use amr_labels::{Listing, Shared};
@@ -19,18 +17,4 @@ pub enum Outcome {
     },
     /// The event is refused, and changes nothing.
     Refused(Reason),
-}
-
-ghost use Rattle.amr_engine.specs.Refusals.{is_refused};
-
-impl Outcome {
-    /// Returns whether the event was refused.
-    pub fn is_refused(&self) -> bool
-        ensures { result ≡ is_refused self.now }
-    {
-        match self {
-            Outcome::Accepted { .. } => false,
-            Outcome::Refused(_) => true,
-        }
-    }
 }

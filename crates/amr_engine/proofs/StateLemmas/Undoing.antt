@@ -266,15 +266,6 @@ undone-idle k e = λ i. record {
   room = k.room;
 }
 
-pub undone-undone : (k : Kept) → before_open_record (before_open_record k) ≡ before_open_record k
-unfolding before_open_record
-undone-undone k = λ i. record {
-  state = put_back-none (put_back k.current k.state) i;
-  current = [];
-  records = k.records;
-  room = k.room;
-}
-
 pub same_undone : (k l : Kept) → put_back k.current k.state ≡ put_back l.current l.state → k.records ≡ l.records → k.room ≡ l.room → before_open_record k ≡ before_open_record l
 unfolding before_open_record
 same_undone k l state records room = λ i. record { state = state i; current = []; records = records i; room = room i }
