@@ -43,8 +43,8 @@ first_weight (suc most) at s = option_map_or (λ due. move_weight s due due.kind
 abbrev pub groups_weight : State → ℕ
 groups_weight s = len s.timers + len s.placements
 
--- the entries of a reload: one for the configuration with its groups, and two for each member after
--- it, for itself and its group's timer
+-- what a reload may enter: the configuration with its groups, and for each member after it, itself
+-- and its group's timer
 abbrev pub reload_entries : State → ℕ
 reload_entries after = 1 + 2 * groups_weight after
 

@@ -24,7 +24,7 @@ use Rattle.amr_rules.specs.declared.dedup.LogEntry.{LogEntry}
 use Rattle.amr_engine.specs.declared.state.change.Change.{Change}
 use Rattle.amr_engine.specs.declared.state.change.Change.TheVariants.{OfMoment, OfRoster, OfAlert, OfSilence, OfMember, OfTimer, OfLog, OfNotes}
 use Rattle.amr_engine.specs.declared.state.tables.Tables.{Tables}
-use Rattle.amr_engine.specs.State.Records.{after_change, put_back, same_place, has_entry, IsNoNotification, NotesEntered}
+use Rattle.amr_engine.specs.State.Records.{after_change, put_back, is_covered_by, has_entry, IsNoNotification, NotesEntered}
 use Rattle.amr_config.specs.RouteLabels.{route_labels_cmp, route_labels_cmp-IsAntisymmetric}
 use Rattle.amr_engine.specs.State.State.{State, member_on_route, group_key, log_key_cmp, log_key_cmp-IsAntisymmetric}
 use Rattle.amr_engine.specs.State.Fitting.{FitsOne, IsAllowed}
@@ -32,7 +32,7 @@ use Rattle.amr_engine.specs.State.Kept.{before_open_record}
 use Rattle.amr_engine.specs.State.Rostered.{Rostered}
 use Rattle.amr_engine.specs.declared.state.store.Store.TheInside.{Inside}
 use Rattle.amr_engine.specs.State.Stored.{shown_by, state_of, kept_of, entries_of, with_roster, roster_back, change_back, IsSound, AreSound, IsPlaceOf, IsEntered, MorePlaces, SameValues, is_marked_at, IsUnmarked, IsRoomier, NoNewMark, NewMarkAt, IsKept}
-use Rattle.amr_engine.proofs.StateLemmas.Undoing.{unlike, or_left, put_back-push, put_back-entered, put_back-appended, covered, covered_notification, notes_entered-more, notes_entered-push, has_entry-push, has_entry-last, same_undone}
+use Rattle.amr_engine.proofs.StateLemmas.Undoing.{unlike, put_back-push, put_back-entered, put_back-appended, covered, covered_notification, notes_entered-more, notes_entered-push, has_entry-push, has_entry-last, same_undone}
 
 -- what was found is what there is
 pub found : {A : Type 0} (x o : Option A) → x ≡ o → IfSome o (λ a. x ≡ Some a)
@@ -153,7 +153,7 @@ kept_pushed a b e kept more moment closed current sound marks notes = record {
   sound = subst (λ es. AreSound es b.tables) (joined-push a.journal.closed a.journal.current e ∙ (λ i. joined (sym closed i) ++ sym current i))
       (sound-push (entries_of a) e b.tables (all-more (entries_of a) a.tables (with_roster b.tables e) more kept.sound) sound);
   marked = λ place h. subst (λ es. IsTrue (has_entry es place)) (sym current) (
-      either (same_place place e) (is_marked_at a.tables place) _ (has_entry-last a.journal.current e place)
+      either (is_covered_by place e) (is_marked_at a.tables place) _ (has_entry-last a.journal.current e place)
       (λ before. has_entry-push a.journal.current e place (kept.marked place before)) (marks place h));
   notes = λ h. subst (λ es. NotesEntered es (length b.tables.notes.items)) (sym current) (notes h);
 }
@@ -319,13 +319,6 @@ marked_back t u (OfTimer group timer) = refl
 marked_back t u (OfLog key entry) = refl
 marked_back t u (OfNotes count) = refl
 
--- a roster that the store takes has no marks
-marked_before : (t : Tables) (s : State) (e : Change) → IsAllowed s e → (place : Change) → IsTrue (is_marked_at (with_roster t e) place) → IsTrue (is_marked_at t place)
-marked_before t s (OfRoster roster) h =
-    by_place (λ place. IsTrue (is_marked_at (record t { roster = roster }) place) → IsTrue (is_marked_at t place)) (λ m x. x) (λ r x. x) (λ k v x. x) (λ k v x. x)
-    (λ k v x. not_so _ _ (h.0 (member_on_route k)) x) (λ k v x. not_so _ _ (h.1 k) x) (λ k v x. x) (λ n x. x)
-marked_before t s e h = λ place x. x
-
 -- the roster that is displaced leads back to the places of before
 more_back : (a b : Tables) (e : Change) → MorePlaces (with_roster a e) b → MorePlaces a (with_roster b (change_back a e))
 more_back a b (OfRoster roster) more = record { config = refl; alerts = more.alerts; silences = more.silences; placements = λ k h. h; timers = λ k h. h; log = more.log }
@@ -391,20 +384,20 @@ notes_changed s (OfTimer group timer) h = refl
 notes_changed s (OfLog key entry) h = refl
 notes_changed s (OfNotes count) h = absurd h
 
-notes_apart : (t : Tables) (s : State) (e : Change) → IsAllowed s e → same_place (OfNotes 0) (change_back t e) ≡ false
+notes_apart : (t : Tables) (s : State) (e : Change) → IsAllowed s e → is_covered_by (OfNotes 0) (change_back t e) ≡ false
 notes_apart t s (OfNotes count) h = absurd h
 notes_apart t s e h = refl
 
 -- two changes of one place have one mark
-marked_alike : (t : Tables) (p e : Change) → same_place p e ≡ true → IsTrue (is_marked_at t e) → IsTrue (is_marked_at t p)
+marked_alike : (t : Tables) (p e : Change) → is_covered_by p e ≡ true → IsTrue (is_marked_at t e) → IsTrue (is_marked_at t p)
 marked_alike t (OfMoment a) (OfMoment b) is h = h
-marked_alike t (OfRoster a) (OfRoster b) is h = h
 marked_alike t (OfAlert a v) (OfAlert b w) is h = subst (λ k. IsTrue (is_entered label_set_cmp t.alerts k)) (sym (tells_apart label_set_cmp-IsAntisymmetric a b is)) h
 marked_alike t (OfSilence a v) (OfSilence b w) is h = subst (λ k. IsTrue (is_entered nat_cmp t.silences k)) (sym (tells_apart nat_cmp-IsAntisymmetric a b is)) h
-marked_alike t (OfMember a v) (OfMember b w) is h = subst (λ k. IsTrue (is_entered route_labels_cmp t.roster.placements k)) (sym (tells_apart route_labels_cmp-IsAntisymmetric (member_on_route a) (member_on_route b) is)) h
-marked_alike t (OfTimer a v) (OfTimer b w) is h = subst (λ k. IsTrue (is_entered route_labels_cmp t.roster.timers k)) (sym (tells_apart route_labels_cmp-IsAntisymmetric a b is)) h
+marked_alike t (OfMember a v) (OfMember b w) is h = subst (λ k. IsTrue (t.is_roster_entered || is_entered route_labels_cmp t.roster.placements k)) (sym (tells_apart route_labels_cmp-IsAntisymmetric (member_on_route a) (member_on_route b) is)) h
+marked_alike t (OfTimer a v) (OfTimer b w) is h = subst (λ k. IsTrue (t.is_roster_entered || is_entered route_labels_cmp t.roster.timers k)) (sym (tells_apart route_labels_cmp-IsAntisymmetric a b is)) h
 marked_alike t (OfLog a v) (OfLog b w) is h = subst (λ k. IsTrue (is_entered log_key_cmp t.log k)) (sym (tells_apart log_key_cmp-IsAntisymmetric a b is)) h
 marked_alike t (OfNotes a) (OfNotes b) is h = h
+marked_alike t p (OfRoster roster) is h = absurd (unlike h)
 marked_alike t p e is h = absurd (unlike is)
 
 -- ---- the invariant after one change
@@ -426,18 +419,17 @@ kept_changed a b e n kept allowed at more state entered =
     let back : Change = change_back a.tables e in
     let late : b.tables.moment ≤ latest_read = subst (λ (t : State). t.moment ≤ latest_read) (sym state) (late_changed s e allowed kept.moment) in
     let notes : b.tables.notes.items ≡ a.tables.notes.items = ap (λ (t : State). t.notes) state ∙ notes_changed s e allowed in
-    let marks : (place : Change) → NewMarkAt back a.tables b.tables place = λ place h. or_left (same_place place back) _ _ (marked_before a.tables s e allowed place) (entered.marks place h) in
     elim (is_marked_at a.tables e) as (λ m. is_marked_at a.tables e ≡ m → b.journal.current ≡ cond m a.journal.current (a.journal.current ++ back ∷ []) → IsKept b) [
       | true ↦ λ marked current.
           kept_still a b kept (more_marked a.tables b.tables e marked more) late entered.closed current
-          (λ place h. either (same_place place back) (is_marked_at a.tables place) _ (λ same. marked_alike a.tables place back same (marked_back a.tables a.tables e ∙ marked)) (λ before. before) (marks place h))
+          (λ place h. either (is_covered_by place back) (is_marked_at a.tables place) _ (λ same. marked_alike a.tables place back same (marked_back a.tables a.tables e ∙ marked)) (λ before. before) (entered.marks place h))
           (subst (λ items. length a.tables.notes.items ≤ length items) (sym notes) (le_refl (length a.tables.notes.items)))
       | false ↦ λ _ current.
           let more_there : MorePlaces a.tables (with_roster b.tables back) = more_back a.tables b.tables e more in
           kept_pushed a b back kept more_there late entered.closed current
-          (sound_anyway b.tables back (sound-more a.tables (with_roster b.tables back) more_there back (sound_back a.tables e n kept.moment at (fits_one s e allowed)))) marks
+          (sound_anyway b.tables back (sound-more a.tables (with_roster b.tables back) more_there back (sound_back a.tables e n kept.moment at (fits_one s e allowed)))) entered.marks
           (λ h. subst (λ items. NotesEntered (a.journal.current ++ back ∷ []) (length items)) (sym notes)
-          (notes_entered-push a.journal.current back (length a.tables.notes.items) (kept.notes (subst (λ x. IsTrue (x || a.tables.are_notes_entered)) (notes_apart a.tables s e allowed) (marks (OfNotes 0) h)))))
+          (notes_entered-push a.journal.current back (length a.tables.notes.items) (kept.notes (subst (λ x. IsTrue (x || a.tables.are_notes_entered)) (notes_apart a.tables s e allowed) (entered.marks (OfNotes 0) h)))))
     ] refl entered.current
 
 -- ---- what the open record gives by being put back, after one change

@@ -23,7 +23,7 @@ use Rattle.amr_engine.specs.declared.state.change.Change.TheVariants.{OfMoment, 
 use Rattle.amr_config.specs.RouteLabels.{route_labels_cmp, route_labels_cmp_total, route_labels_cmp-IsAntisymmetric}
 use Rattle.amr_engine.specs.State.State.{State, member_on_route, log_key_cmp, log_key_cmp_total, log_key_cmp-IsAntisymmetric}
 use Rattle.amr_engine.specs.declared.state.tables.Tables.{Tables}
-use Rattle.amr_engine.specs.State.Records.{after_change, put_back, same_place, has_entry, IsNoNotification, NotesEntered, befores, before_all}
+use Rattle.amr_engine.specs.State.Records.{after_change, put_back, is_covered_by, has_entry, IsNoNotification, NotesEntered, befores, before_all}
 use Rattle.amr_engine.specs.State.Stored.{shown_by, change_back}
 use Rattle.amr_engine.specs.State.Kept.{Kept, before_open_record}
 
@@ -89,8 +89,8 @@ module _ {K X : Type 0} {R : K → K → Ordering} (o : IsTotalOrder R) (same : 
       ∙ swapped (eq_by_cmp R q b) (eq_by_cmp R q a) w v (get m q) (not_both o same a b q f)
       ∙ sym (get-set o (set m b w) a v q ∙ ap (cond (eq_by_cmp R q a) v) (get-set o m b w q)))
 
--- of two values of one place the second counts
-pub overwrite : (s : State) (first second : Change) → same_place first second ≡ true → IsNoNotification first → after_change (after_change s first) second ≡ after_change s second
+-- of two values of one place the second counts, and a roster has all places of members and timers
+pub overwrite : (s : State) (first second : Change) → is_covered_by first second ≡ true → IsNoNotification first → after_change (after_change s first) second ≡ after_change s second
 overwrite s (OfMoment a) (OfMoment b) t h = refl
 overwrite s (OfRoster a) (OfRoster b) t h = refl
 overwrite s (OfAlert a v) (OfAlert b w) t h = ap (λ (m : Alerts). record s { alerts = m }) (set-set label_set_cmp_total label_set_cmp-IsAntisymmetric s.alerts a b v w t)
@@ -98,6 +98,8 @@ overwrite s (OfSilence a v) (OfSilence b w) t h = ap (λ (m : Silences). record 
 overwrite s (OfMember a v) (OfMember b w) t h = ap (λ (m : Map route_labels_cmp Alert). record s { placements = m }) (set-set route_labels_cmp_total route_labels_cmp-IsAntisymmetric s.placements (member_on_route a) (member_on_route b) v w t)
 overwrite s (OfTimer a v) (OfTimer b w) t h = ap (λ (m : Map route_labels_cmp GroupTimer). record s { timers = m }) (set-set route_labels_cmp_total route_labels_cmp-IsAntisymmetric s.timers a b v w t)
 overwrite s (OfLog a v) (OfLog b w) t h = ap (λ (m : Map log_key_cmp LogEntry). record s { log = m }) (set-set log_key_cmp_total log_key_cmp-IsAntisymmetric s.log a b v w t)
+overwrite s (OfMember a v) (OfRoster b) t h = refl
+overwrite s (OfTimer a v) (OfRoster b) t h = refl
 overwrite s (OfNotes a) second t h = absurd h
 overwrite s first second t h = absurd (unlike t)
 
@@ -107,7 +109,7 @@ KeepsRoster (OfRoster roster) = ⊥
 KeepsRoster _ = Unit {0}
 
 -- values of two places are put back in any order
-commute : (s : State) (a b : Change) → KeepsRoster a → KeepsRoster b → same_place a b ≡ false → after_change (after_change s a) b ≡ after_change (after_change s b) a
+commute : (s : State) (a b : Change) → KeepsRoster a → KeepsRoster b → is_covered_by a b ≡ false → after_change (after_change s a) b ≡ after_change (after_change s b) a
 commute s (OfRoster a) b h _ f = absurd h
 commute s a (OfRoster b) _ h f = absurd h
 commute s (OfMoment a) (OfMoment b) _ _ f = absurd (unlike (sym f))
@@ -126,7 +128,7 @@ take-swap (suc m) zero xs = refl
 take-swap (suc m) (suc n) [] = refl
 take-swap (suc m) (suc n) (x ∷ xs) = ap (λ ys. x ∷ ys) (take-swap m n xs)
 
-passes_same : (e q : Change) (s t : State) → same_place e q ≡ true → after_change s q ≡ after_change t q → after_change (after_change s e) q ≡ after_change (after_change t e) q
+passes_same : (e q : Change) (s t : State) → is_covered_by e q ≡ true → after_change s q ≡ after_change t q → after_change (after_change s e) q ≡ after_change (after_change t e) q
 passes_same (OfNotes a) (OfNotes b) s t is h =
     ap (λ (notes : List Notification). record s { notes = notes }) (take-swap b a s.notes) ∙ ap (λ (x : State). after_change x (OfNotes a)) h
     ∙ ap (λ (notes : List Notification). record t { notes = notes }) (take-swap a b t.notes)
@@ -139,7 +141,7 @@ passes_same (OfMember a v) q s t is h = overwrite s (OfMember a v) q is tt ∙ h
 passes_same (OfTimer a v) q s t is h = overwrite s (OfTimer a v) q is tt ∙ h ∙ sym (overwrite t (OfTimer a v) q is tt)
 passes_same (OfLog a v) q s t is h = overwrite s (OfLog a v) q is tt ∙ h ∙ sym (overwrite t (OfLog a v) q is tt)
 
-passes_other : (e q : Change) (s t : State) → KeepsRoster e → KeepsRoster q → same_place e q ≡ false → after_change s q ≡ after_change t q → after_change (after_change s e) q ≡ after_change (after_change t e) q
+passes_other : (e q : Change) (s t : State) → KeepsRoster e → KeepsRoster q → is_covered_by e q ≡ false → after_change s q ≡ after_change t q → after_change (after_change s e) q ≡ after_change (after_change t e) q
 passes_other e q s t one two f h = commute s e q one two f ∙ ap (λ (x : State). after_change x e) h ∙ sym (commute t e q one two f)
 
 -- states that an entry makes alike are alike under any roster, with that entry
@@ -153,7 +155,7 @@ with_any_roster roster (OfTimer a v) s t h = ap (λ (x : State). after_change (a
 with_any_roster roster (OfLog a v) s t h = ap (λ (x : State). after_change x (OfRoster roster)) h
 with_any_roster roster (OfNotes a) s t h = ap (λ (x : State). after_change x (OfRoster roster)) h
 
-passes_else : (e q : Change) (s t : State) → same_place e q ≡ false → after_change s q ≡ after_change t q → after_change (after_change s e) q ≡ after_change (after_change t e) q
+passes_else : (e q : Change) (s t : State) → is_covered_by e q ≡ false → after_change s q ≡ after_change t q → after_change (after_change s e) q ≡ after_change (after_change t e) q
 passes_else (OfRoster roster) q s t f h = with_any_roster roster q s t h
 passes_else (OfMember a v) (OfRoster roster) s t f h = h
 passes_else (OfTimer a v) (OfRoster roster) s t f h = h
@@ -167,7 +169,7 @@ passes_else e q s t f h = passes_other e q s t tt tt f h
 -- states that one entry makes alike it makes alike after another, too
 passes : (e q : Change) (s t : State) → after_change s q ≡ after_change t q → after_change (after_change s e) q ≡ after_change (after_change t e) q
 passes e q s t h =
-    elim (same_place e q) as (λ b. same_place e q ≡ b → after_change (after_change s e) q ≡ after_change (after_change t e) q) [
+    elim (is_covered_by e q) as (λ b. is_covered_by e q ≡ b → after_change (after_change s e) q ≡ after_change (after_change t e) q) [
       | true ↦ λ is. passes_same e q s t is h
       | false ↦ λ f. passes_else e q s t f h
     ] refl
@@ -182,7 +184,7 @@ pub covered : (entries : List Change) (change : Change) (s : State) → IsNoNoti
 unfolding put_back has_entry
 covered [] change s h t = absurd (unlike t)
 covered (first ∷ rest) change s h t =
-    elim (same_place change first) as (λ b. same_place change first ≡ b → (b || has_entry rest change) ≡ true → put_back (first ∷ rest) (after_change s change) ≡ put_back (first ∷ rest) s) [
+    elim (is_covered_by change first) as (λ b. is_covered_by change first ≡ b → (b || has_entry rest change) ≡ true → put_back (first ∷ rest) (after_change s change) ≡ put_back (first ∷ rest) s) [
       | true ↦ λ is _. passes_all rest first (after_change s change) s (overwrite s change first is h)
       | false ↦ λ _ t. ap (λ (x : State). after_change x first) (covered rest change s h t)
     ] refl t
@@ -215,7 +217,7 @@ unfolding NotesEntered
 notes_entered-last [] count n h = inl h
 notes_entered-last (first ∷ rest) count n h = inr (notes_entered-last rest count n h)
 
-pub or_left : (a b c : Bool) → (b ≡ true → c ≡ true) → (a || b) ≡ true → (a || c) ≡ true
+or_left : (a b c : Bool) → (b ≡ true → c ≡ true) → (a || b) ≡ true → (a || c) ≡ true
 or_left true b c f h = refl
 or_left false b c f h = f h
 
@@ -227,12 +229,12 @@ or_right false b h = h
 pub has_entry-push : (entries : List Change) (e place : Change) → has_entry entries place ≡ true → has_entry (entries ++ e ∷ []) place ≡ true
 unfolding has_entry
 has_entry-push [] e place h = absurd (unlike h)
-has_entry-push (first ∷ rest) e place h = or_left (same_place place first) _ _ (has_entry-push rest e place) h
+has_entry-push (first ∷ rest) e place h = or_left (is_covered_by place first) _ _ (has_entry-push rest e place) h
 
-pub has_entry-last : (entries : List Change) (e place : Change) → same_place place e ≡ true → has_entry (entries ++ e ∷ []) place ≡ true
+pub has_entry-last : (entries : List Change) (e place : Change) → is_covered_by place e ≡ true → has_entry (entries ++ e ∷ []) place ≡ true
 unfolding has_entry
 has_entry-last [] e place h = ap (λ b. b || false) h
-has_entry-last (first ∷ rest) e place h = or_right (same_place place first) _ (has_entry-last rest e place h)
+has_entry-last (first ∷ rest) e place h = or_right (is_covered_by place first) _ (has_entry-last rest e place h)
 
 pub put_back-none : (s : State) → put_back [] s ≡ s
 unfolding put_back

@@ -26,21 +26,24 @@ unfoldable pub put_back : List Change → State → State
 put_back [] s = s
 put_back (first ∷ rest) s = after_change (put_back rest s) first
 
--- whether two entries are of one place
-abbrev pub same_place : Change → Change → Bool
-same_place (OfMoment a) (OfMoment b) = true
-same_place (OfRoster a) (OfRoster b) = true
-same_place (OfAlert a v) (OfAlert b w) = eq_by_cmp label_set_cmp a b
-same_place (OfSilence a v) (OfSilence b w) = eq_by_cmp nat_cmp a b
-same_place (OfMember a v) (OfMember b w) = eq_by_cmp route_labels_cmp (member_on_route a) (member_on_route b)
-same_place (OfTimer a v) (OfTimer b w) = eq_by_cmp route_labels_cmp a b
-same_place (OfLog a v) (OfLog b w) = eq_by_cmp log_key_cmp a b
-same_place (OfNotes a) (OfNotes b) = true
-same_place _ _ = false
+-- whether an entry leads back at the place of a change, too: one of the roster does so for all members
+-- and timers
+abbrev pub is_covered_by : Change → Change → Bool
+is_covered_by (OfMoment a) (OfMoment b) = true
+is_covered_by (OfRoster a) (OfRoster b) = true
+is_covered_by (OfAlert a v) (OfAlert b w) = eq_by_cmp label_set_cmp a b
+is_covered_by (OfSilence a v) (OfSilence b w) = eq_by_cmp nat_cmp a b
+is_covered_by (OfMember a v) (OfMember b w) = eq_by_cmp route_labels_cmp (member_on_route a) (member_on_route b)
+is_covered_by (OfMember a v) (OfRoster b) = true
+is_covered_by (OfTimer a v) (OfRoster b) = true
+is_covered_by (OfTimer a v) (OfTimer b w) = eq_by_cmp route_labels_cmp a b
+is_covered_by (OfLog a v) (OfLog b w) = eq_by_cmp log_key_cmp a b
+is_covered_by (OfNotes a) (OfNotes b) = true
+is_covered_by _ _ = false
 
 -- whether a record has an entry for the place
 unfoldable pub has_entry : List Change → Change → Bool
-has_entry entries place = list_any (same_place place) entries
+has_entry entries place = list_any (is_covered_by place) entries
 
 -- the entry is of another place than the notifications
 abbrev pub IsNoNotification : Change → Type 0

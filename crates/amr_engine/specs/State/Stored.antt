@@ -14,7 +14,7 @@ use Rattle.amr_engine.specs.declared.state.change.Change.TheVariants.{OfMoment, 
 use Rattle.amr_engine.specs.declared.state.tables.Tables.{Tables}
 use Rattle.amr_config.specs.RouteLabels.{route_labels_cmp}
 use Rattle.amr_engine.specs.State.State.{State, member_on_route, group_key, log_key_cmp}
-use Rattle.amr_engine.specs.State.Records.{same_place, has_entry, NotesEntered}
+use Rattle.amr_engine.specs.State.Records.{is_covered_by, has_entry, NotesEntered}
 use Rattle.amr_engine.specs.State.Kept.{Kept}
 use Rattle.amr_engine.specs.declared.state.store.Store.TheInside.{Inside}
 
@@ -81,15 +81,14 @@ change_back tables (OfTimer group timer) = OfTimer group (get (map_of route_labe
 change_back tables (OfLog key entry) = OfLog key (get (map_of log_key_cmp tables.log) key)
 change_back tables (OfNotes count) = OfNotes (length tables.notes.items)
 
--- whether the entry's place is marked: the open record has an entry for it. A roster's places have
--- marks of its own, and the roster itself has none.
+-- whether the entry's place is marked: the open record has an entry that leads back there
 abbrev pub is_marked_at : Tables → Change → Bool
 is_marked_at tables (OfMoment moment) = tables.is_moment_entered
 is_marked_at tables (OfRoster roster) = false
 is_marked_at tables (OfAlert labels alert) = is_entered label_set_cmp tables.alerts labels
 is_marked_at tables (OfSilence id silence) = is_entered nat_cmp tables.silences id
-is_marked_at tables (OfMember member alert) = is_entered route_labels_cmp tables.roster.placements (member_on_route member)
-is_marked_at tables (OfTimer group timer) = is_entered route_labels_cmp tables.roster.timers group
+is_marked_at tables (OfMember member alert) = tables.is_roster_entered || is_entered route_labels_cmp tables.roster.placements (member_on_route member)
+is_marked_at tables (OfTimer group timer) = tables.is_roster_entered || is_entered route_labels_cmp tables.roster.timers group
 is_marked_at tables (OfLog key entry) = is_entered log_key_cmp tables.log key
 is_marked_at tables (OfNotes count) = tables.are_notes_entered
 
@@ -107,9 +106,9 @@ IsPlaceOf tables _ n = Unit {0}
 abbrev pub NoNewMark : Tables → Tables → Change → Type 0
 NoNewMark a b place = IsTrue (is_marked_at b place) → IsTrue (is_marked_at a place)
 
--- no mark is new but that at an entry's place
+-- no mark is new but where the entry leads back
 abbrev pub NewMarkAt : Change → Tables → Tables → Change → Type 0
-NewMarkAt e a b place = IsTrue (is_marked_at b place) → IsTrue (same_place place e || is_marked_at a place)
+NewMarkAt e a b place = IsTrue (is_marked_at b place) → IsTrue (is_covered_by place e || is_marked_at a place)
 
 -- no place is marked
 abbrev pub IsUnmarked : Tables → Type 0
@@ -146,12 +145,12 @@ pub record IsRoomier (a : Tables) (journal : Records Change) (b : Tables) (writt
   pub room : written.record_room ≡ journal.record_room
 
 -- The open record has an entry more, which leads back from the change, unless the place is marked.
--- No other place gets a mark, but a new roster has its own.
+-- No other place gets a mark but those where that entry leads back, too.
 pub record IsEntered (a : Tables) (journal : Records Change) (change : Change) (b : Tables) (written : Records Change) : Type 0 where
   pub current : written.current ≡ (if is_marked_at a change then journal.current else journal.current ++ change_back a change ∷ [])
   pub closed : written.closed ≡ journal.closed
   pub room : written.record_room ≡ journal.record_room
-  pub marks : (place : Change) → NewMarkAt (change_back a change) (with_roster a change) b place
+  pub marks : (place : Change) → NewMarkAt (change_back a change) a b place
 
 -- the entries of all records, the oldest first
 abbrev pub entries_of : Inside → List Change

@@ -3,7 +3,7 @@
 ghost use Rattle.std.specs.Prelude.{◌≡◌, IfOk};
 ghost use Rattle.amr_labels.specs.Map as map;
 ghost use Rattle.amr_config.specs.RouteLabels.{route_labels_cmp};
-ghost use Rattle.amr_tables.specs.Numbered.{map_of, NoneEntered};
+ghost use Rattle.amr_tables.specs.Numbered.{map_of};
 
 use crate::state::membership::Membership;
 use crate::state::notification::{GroupTimer, LogKey};
@@ -62,9 +62,7 @@ impl BoxedRoster {
         ensures config { IfOk result (λ boxed. boxed.config ≡ config) }
         ensures placements { IfOk result (λ boxed.
             map_of route_labels_cmp boxed.placements ≡ map.empty) }
-        ensures entered { IfOk result (λ boxed. NoneEntered route_labels_cmp boxed.placements) }
         ensures timers { IfOk result (λ boxed. map_of route_labels_cmp boxed.timers ≡ map.empty) }
-        ensures timers_entered { IfOk result (λ boxed. NoneEntered route_labels_cmp boxed.timers) }
     {
         Ok(BoxedRoster {
             roster: Box::new(alloc, Roster::new(alloc, config))?,

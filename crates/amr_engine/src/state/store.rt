@@ -45,9 +45,9 @@ use std::marker::Model;
 
 /// The state of the replayed instance. Each change enters the one that leads back into the open
 /// record of the journal, so that the event can be undone without taking memory. A record has one
-/// entry for each place: a later change there displaces a value that the same event made. A change of
-/// the configuration is one of the groups with their members, too: they are put back with the
-/// configuration that gave the members their groups.
+/// entry for each place: a later change there displaces a value that the same event made. That of a
+/// reload has the configuration with all groups, which are put back at once, so later changes of the
+/// new groups aren't entered.
 #[derive(Drop)]
 pub struct Store {
     alloc: Global,
@@ -89,6 +89,7 @@ impl Store {
                 log: Keyed::new(alloc),
                 notes: Vec::new(alloc),
                 is_moment_entered: false,
+                is_roster_entered: false,
                 are_notes_entered: false,
             },
             journal: Journal::new(alloc),

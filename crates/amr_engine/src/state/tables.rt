@@ -1,7 +1,7 @@
 //! The representation of the state: the clock, the tables and the notifications, with the marks of
 //! what the open record has entries for. `Store` owns it, appends notifications and drops them;
 //! `displace` is the one way to change it otherwise.
-ghost use Rattle.std.specs.Prelude.{◌≡◌, ◌↔◌, false, Some, IsTrue, IfOk, not};
+ghost use Rattle.std.specs.Prelude.{◌≡◌, ◌↔◌, ◌||◌, false, Some, IsTrue, IfOk, not};
 ghost use Rattle.amr_tables.specs.Numbered.{map_of, has_place, number_of, KeepsPlaces, SameEntered};
 ghost use Rattle.amr_labels.specs.Labels.{label_set_cmp};
 ghost use Rattle.amr_config.specs.RouteLabels.{route_labels_cmp};
@@ -27,8 +27,9 @@ use std::alloc::AllocError;
 use std::mem;
 
 /// The clock, the tables and the notifications. Each table marks the places that the open record
-/// has an entry for. The clock and the notifications are in no table, so their marks are here. The
-/// roster has no mark: each change of it is entered.
+/// has an entry for. The clock and the notifications are in no table, so their marks are here. So is
+/// that of a roster that came with the open record, which has an entry for all its places then. The
+/// roster itself has no mark: each change of it is entered.
 #[derive(Drop)]
 pub(crate) struct Tables {
     pub(crate) moment: Moment,
@@ -38,6 +39,7 @@ pub(crate) struct Tables {
     pub(crate) log: Keyed<LogKey, Shared<LogEntry>>,
     pub(crate) notes: Vec<Shared<Notification>>,
     pub(crate) is_moment_entered: bool,
+    pub(crate) is_roster_entered: bool,
     pub(crate) are_notes_entered: bool,
 }
 
@@ -77,8 +79,8 @@ impl Tables {
     }
 
     /// Makes a change, given the number of its place, and marks the place. `change` becomes the one
-    /// that leads back. Returns whether the place was marked before. The roster has no mark. It takes
-    /// no memory.
+    /// that leads back. Returns whether the place was marked before. A roster has no mark, but all
+    /// places in it are marked then. It takes no memory.
     #[inline(always)]
     pub(crate) fn displace(&mut self, number: usize, change: &mut Change) -> bool
         requires number { IsPlaceOf self.old change.old number }
@@ -88,9 +90,10 @@ impl Tables {
         ensures was_marked { result ≡ is_marked_at self.old change.old }
         ensures marked { is_marked_at self.new change.old ≡ not (is_roster change.old) }
         ensures places { MorePlaces (with_roster self.old change.old) self.new }
+        ensures roster { self.new.is_roster_entered
+            ≡ (is_roster change.old || self.old.is_roster_entered) }
         ensures marks { (place : Change)
-            → NewMarkAt (change_back self.old change.old) (with_roster self.old change.old)
-            self.new place }
+            → NewMarkAt (change_back self.old change.old) self.old self.new place }
     {
         match change {
             Change::OfMoment(at) => {
@@ -99,12 +102,19 @@ impl Tables {
             }
             Change::OfRoster(roster) => {
                 roster.swap(&mut self.roster);
+                self.is_roster_entered = true;
                 false
             }
             Change::OfAlert(_, alert) => self.alerts.swap_at(number, alert),
             Change::OfSilence(id, silence) => self.silences.swap_at(id, number, silence),
-            Change::OfMember(member, alert) => self.roster.swap_member(number, member, alert),
-            Change::OfTimer(_, timer) => self.roster.swap_timer(number, timer),
+            Change::OfMember(member, alert) => is_either(
+                self.is_roster_entered,
+                self.roster.swap_member(number, member, alert),
+            ),
+            Change::OfTimer(_, timer) => is_either(
+                self.is_roster_entered,
+                self.roster.swap_timer(number, timer),
+            ),
             Change::OfLog(_, entry) => self.log.swap_at(number, entry),
             Change::OfNotes(count) => {
                 let was = self.notes.len();
@@ -147,8 +157,16 @@ impl Tables {
         self.roster.clear_entered();
         self.log.clear_entered();
         self.is_moment_entered = false;
+        self.is_roster_entered = false;
         self.are_notes_entered = false;
     }
+}
+
+/// Returns whether one of two marks is set.
+fn is_either(one: bool, other: bool) -> bool
+    ensures { result ≡ (one || other) }
+{
+    one || other
 }
 
 /// Returns the number of the place of a key of the notification log. Makes the place if there is

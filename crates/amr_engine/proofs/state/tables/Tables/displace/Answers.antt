@@ -1,4 +1,4 @@
-use Rattle.std.proofs.Common.{◌≡◌, ℕ, true, IsTrue, Some, refl, subst, sym, ap, ◌∙◌, not}
+use Rattle.std.proofs.Common.{◌≡◌, ℕ, Bool, true, false, IsTrue, Some, refl, subst, sym, ap, ◌∙◌, not}
 use Rattle.std.specs.Prelude.{◌||◌}
 use Rattle.std.specs.declared.cmp.Ordering.{Ordering}
 use Rattle.std.specs.Ordering.{is_eq}
@@ -27,6 +27,10 @@ swap_at-requires-in-OfLog c = (c.in-OfLog.field-0, subst (λ e. IsPlaceOf c.args
 marked_now : {K V : Type 0} (R : K → K → Ordering) → IsTotalOrder R → (old changed : Numbered K V) (n : ℕ) (key : K) → EntersAt R old n changed → number_of R old key ≡ Some n → is_entered R changed key ≡ true
 marked_now R o old changed n key enters at = enters key at key ∙ ap (λ r. is_eq r || is_entered R old key) (tied_itself o key)
 
+or_true : (a : Bool) → (a || true) ≡ true
+or_true true = refl
+or_true false = refl
+
 pub returns-in-OfAlert-clause-marked : goal.returns-in-OfAlert-clause-marked
 returns-in-OfAlert-clause-marked c =
     let after : Tables = record c.args.self.now { alerts = c.swap_at.new.self } in
@@ -38,15 +42,15 @@ pub returns-in-OfMember-clause-marked : goal.returns-in-OfMember-clause-marked
 returns-in-OfMember-clause-marked c =
     let after : Tables = record c.args.self.now { roster = c.swap_member.new.self } in
     subst (λ e. is_marked_at after e ≡ not (is_roster e)) (sym c.in-OfMember.is)
-    (marked_now route_labels_cmp route_labels_cmp_total c.args.self.now.roster.placements c.swap_member.new.self.placements c.args.number (member_on_route c.in-OfMember.member) c.swap_member.ensures.entered
-    (subst (λ e. IsPlaceOf c.args.self.now e c.args.number) c.in-OfMember.is c.requires.number).0)
+    (ap (λ b. after.is_roster_entered || b) (marked_now route_labels_cmp route_labels_cmp_total c.args.self.now.roster.placements c.swap_member.new.self.placements c.args.number (member_on_route c.in-OfMember.member)
+    c.swap_member.ensures.entered (subst (λ e. IsPlaceOf c.args.self.now e c.args.number) c.in-OfMember.is c.requires.number).0) ∙ or_true after.is_roster_entered)
 
 pub returns-in-OfTimer-clause-marked : goal.returns-in-OfTimer-clause-marked
 returns-in-OfTimer-clause-marked c =
     let after : Tables = record c.args.self.now { roster = c.swap_timer.new.self } in
     subst (λ e. is_marked_at after e ≡ not (is_roster e)) (sym c.in-OfTimer.is)
-    (marked_now route_labels_cmp route_labels_cmp_total c.args.self.now.roster.timers c.swap_timer.new.self.timers c.args.number c.in-OfTimer.field-0 c.swap_timer.ensures.entered
-    (subst (λ e. IsPlaceOf c.args.self.now e c.args.number) c.in-OfTimer.is c.requires.number))
+    (ap (λ b. after.is_roster_entered || b) (marked_now route_labels_cmp route_labels_cmp_total c.args.self.now.roster.timers c.swap_timer.new.self.timers c.args.number c.in-OfTimer.field-0 c.swap_timer.ensures.entered
+    (subst (λ e. IsPlaceOf c.args.self.now e c.args.number) c.in-OfTimer.is c.requires.number)) ∙ or_true after.is_roster_entered)
 
 pub returns-in-OfLog-clause-marked : goal.returns-in-OfLog-clause-marked
 returns-in-OfLog-clause-marked c =
