@@ -30,25 +30,9 @@ pub(crate) fn answer_line<W: Write>(
         (W.contents out.old.writer) (W.contents out.new.writer) result }
     ensures failed { FailsAt result out.old.failed out.new.failed }
 {
-    write_line(alloc, session, line, out)?;
-    flush(out)
-}
-
-/// Answers a line, and writes the answer.
-fn write_line<W: Write>(
-    alloc: Global,
-    session: &mut Session,
-    line: &Line,
-    out: &mut CheckedWriter<W>,
-) -> Result<(), WriteFailed>
-    ensures kept { incident_of session.new ≡ incident_of session.old }
-    ensures answered { (bytes : List ℕ) → Holds line.now bytes
-        → Answers (incident_of session.old) session.old.cursor session.new.cursor bytes
-        (W.contents out.old.writer) (W.contents out.new.writer) result }
-    ensures failed { FailsAt result out.old.failed out.new.failed }
-{
     let answer = answer(alloc, session, line);
-    write_answer(out, session.cursor(), &answer)
+    write_answer(out, session.cursor(), &answer)?;
+    flush(out)
 }
 
 /// Answers a line, even one that is too long or isn't held.
