@@ -213,7 +213,7 @@ module _ {K V : Type 0} {R : K → K → Ordering} (o : IsTotalOrder R) (exact :
         not_none x _ (sym number.1.1 ∙ never number.0)
 
     -- the key that the number of the earliest moment names has this number
-    pub number_of_first : (t : Numbered K V) (e : Earliest) (n : ℕ) (key : K) → IsNumbering R t → IsScheduled R moment_of t e → IsEarliest (rank_of R t) e n → key_at t n ≡ Some key → number_of R t key ≡ Some n
+    number_of_first : (t : Numbered K V) (e : Earliest) (n : ℕ) (key : K) → IsNumbering R t → IsScheduled R moment_of t e → IsEarliest (rank_of R t) e n → key_at t n ≡ Some key → number_of R t key ≡ Some n
     number_of_first t e n key numbering is earliest named = number_of_named t numbering n key (named_moment t e is n earliest.0 earliest.1) named
 
     pub first_moment : (t : Numbered K V) (e : Earliest) (n : ℕ) (moment : Moment) (key : K) → moment_of None ≡ None → IsNumbering R t → AreNumbered R t → IsScheduled R moment_of t e

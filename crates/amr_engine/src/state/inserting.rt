@@ -60,14 +60,7 @@ pub(crate) fn insert_into_each(
 fn stays(before: &Option<GroupTimer>, after: &GroupTimer) -> bool
     ensures { result ≡ true → before.now ≡ Some after.now }
 {
-    match before {
-        None => false,
-        Some(before) => {
-            before.next_flush.nanoseconds() == after.next_flush.nanoseconds()
-                && before.flushed == after.flushed
-                && before.empty_since == after.empty_since
-        }
-    }
+    *before == Some(*after)
 }
 
 /// Sets a group timer that is `before` now. Does nothing if both are equal, as when an alert is

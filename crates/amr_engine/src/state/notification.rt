@@ -11,7 +11,7 @@ use amr_time::Moment;
 use std::alloc::AllocError;
 
 /// A group timer. A group exists as long as it has one.
-#[derive(Clone, Copy)]
+#[derive(Clone, Copy, PartialEq)]
 pub struct GroupTimer {
     /// When the group is flushed next.
     pub next_flush: Moment,

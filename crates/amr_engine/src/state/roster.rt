@@ -1,13 +1,13 @@
 //! The configuration in force with the groups: their timers and their members. `Store` changes it.
 //! The group of a member depends on the configuration, so both are kept together. This is all that a
 //! change of the configuration drops.
-ghost use Rattle.std.specs.Prelude.{◌≡◌, ◌≢◌, ◌+◌, ◌++◌, [], true, false, IsTrue, Some, None, map, is_some, option_map, OnOk, IfOk};
-ghost use Rattle.std.specs.Option.{option_and_then, option_copied};
+ghost use Rattle.std.specs.Prelude.{◌≡◌, ◌≢◌, ◌+◌, ◌++◌, [], IsTrue, Some, None, map, is_some, option_map, OnOk, IfOk};
+ghost use Rattle.std.specs.Option.{option_and_then};
 ghost use Rattle.amr_labels.specs.Labels.{label_set_cmp};
 ghost use Rattle.amr_labels.specs.Map as map;
 ghost use Rattle.amr_config.specs.Groups.{groups_of};
 ghost use Rattle.amr_config.specs.Stated.RuleMatches.{rule_matches};
-ghost use Rattle.amr_tables.specs.Numbered.{map_of, has_place, number_of, key_at, IsMarkOf, IsNumber, IsNumbering, IsSetAt, IsValueOf, KeepsPlaces, SamePlaces, EntersAt, SameEntered, NoneEntered};
+ghost use Rattle.amr_tables.specs.Numbered.{map_of, has_place, number_of, key_at, IsMarkOf, IsNumber, IsSetAt, IsValueOf, KeepsPlaces, SamePlaces, EntersAt, SameEntered, NoneEntered};
 ghost use Rattle.std.specs.List.{All, filter_map, cons_option};
 ghost use Rattle.amr_config.specs.RouteLabels.{route_labels_cmp};
 ghost use Rattle.amr_engine.specs.State.State.{member_on_route, group_key, members_among};
@@ -128,22 +128,6 @@ impl Roster {
         &self.timers
     }
 
-    /// Returns the number of a group, if it has one, and its timer. It compares the group that is
-    /// flushed next before it looks for the group, since that is mostly the one.
-    pub(crate) fn look_up_timer(&self, group: &RouteLabels) -> (Option<usize>, Option<&GroupTimer>)
-        ensures number { result.0 ≡ number_of route_labels_cmp self.now.timers group.now }
-        ensures value { option_copied result.1
-            ≡ map.get (map_of route_labels_cmp self.now.timers) group.now }
-        ensures placed { IsTrue (is_some result.1) → IsTrue (is_some result.0) }
-    {
-        match self.flushes.first(&self.timers) {
-            Some(number) if is_key_at(&self.timers, number, group) => {
-                (Some(number), self.timers.at(number))
-            }
-            _ => self.timers.look_up_number(group),
-        }
-    }
-
     /// Returns the first removal of a group.
     #[inline(always)]
     pub(crate) fn first_removal(&self) -> Option<Pending<'_>>
@@ -177,19 +161,6 @@ impl Roster {
         )
     }
 
-    /// Returns the label sets of the members of a group, in order. It looks up no alert.
-    pub(crate) fn member_labels_of(
-        &self,
-        group: &RouteLabels,
-    ) -> Result<Listing<Labels>, AllocError>
-        ensures { IfOk result (λ found. found ≡ labels_of_members
-            (members_among self.now.config (map_of route_labels_cmp self.now.placements)
-            group.now)) }
-    {
-        let members = self.numbered_members(group)?;
-        labels_of(self.alloc, members.as_slice())
-    }
-
     /// Returns the label sets of the members of a group, in order, with the numbers of their places.
     fn numbered_members(&self, group: &RouteLabels) -> Result<Vec<(&Labels, usize)>, AllocError>
         ensures labels { IfOk result (λ found. labels_of_numbered found.items
@@ -200,8 +171,7 @@ impl Roster {
             (map numbered_labels found.items)) }
     {
         let mut found = Vec::new(self.alloc);
-        let (number, _) = self.look_up_timer(group);
-        let Some(number) = number else {
+        let Some(number) = self.timers.number_of(group) else {
             return Ok(found);
         };
         let members = self.members.numbers_of(number)?;
@@ -403,17 +373,6 @@ fn group_if_member(
     }
 }
 
-/// Returns copies of the labels of members.
-fn labels_of(alloc: Global, members: &[(&Labels, usize)]) -> Result<Listing<Labels>, AllocError>
-    ensures { IfOk result (λ found. found ≡ labels_of_numbered members.now) }
-{
-    let mut found = Listing::new(alloc);
-    for &(labels, _) in members {
-        found.push(labels.clone()?)?;
-    }
-    Ok(found)
-}
-
 /// Returns copies of the labels and alerts of members on a route, given with the numbers of their
 /// places.
 fn with_alerts(
@@ -451,18 +410,6 @@ fn push_member(
         found.push((labels.clone()?, alert.clone()?))?;
     }
     Ok(())
-}
-
-/// Returns whether a group is the key with a number.
-fn is_key_at(timers: &Keyed<RouteLabels, GroupTimer>, number: usize, group: &RouteLabels) -> bool
-    ensures key { result ≡ true → key_at timers.now number ≡ Some group.now }
-    ensures other { result ≡ false → key_at timers.now number ≢ Some group.now }
-    ensures numbering { IsNumbering route_labels_cmp timers.now }
-{
-    match timers.key_at(number) {
-        None => false,
-        Some(key) => key == group,
-    }
 }
 
 /// Returns the first timer of a kind of groups, given the moments of all.

@@ -20,7 +20,6 @@ ghost use Rattle.amr_engine.specs.State.Dues.{next_due};
 ghost use Rattle.amr_engine.specs.Calm.{AreNoneRemoved};
 ghost use Rattle.amr_engine.specs.State.Logged.{is_due};
 ghost use Rattle.amr_engine.specs.State.Kept.{GrownBy, before_open_record};
-ghost use Rattle.amr_engine.specs.State.Rostered.{labels_of_members};
 ghost use Rattle.amr_engine.specs.State.Records.{after_change};
 ghost use Rattle.amr_engine.specs.State.Fitting.{IsAllowed};
 
@@ -289,18 +288,6 @@ impl Store {
         self.tables.roster.members_of(group)
     }
 
-    /// Returns the label sets of the members of a group, in order. It is faster than `members_of`.
-    #[tactic(auto, unfolding(crate::specs::State::State::members))]
-    pub(crate) fn member_labels_of(
-        &self,
-        group: &RouteLabels,
-    ) -> Result<Listing<Labels>, AllocError>
-        ensures { IfOk result (λ found. found
-            ≡ labels_of_members (members self.now.state group.now)) }
-    {
-        self.tables.roster.member_labels_of(group)
-    }
-
     /// Returns the group timers, by group.
     pub fn timers(&self) -> &Keyed<RouteLabels, GroupTimer>
         ensures { map_of route_labels_cmp result.now ≡ self.now.state.timers }
@@ -414,7 +401,7 @@ impl Store {
         ensures kept { before_open_record self.new ≡ before_open_record self.old }
         ensures grown { GrownBy 1 self.old self.new }
     {
-        let (number, former) = self.tables.roster.look_up_timer(group);
+        let (number, former) = self.tables.roster.timers().look_up_number(group);
         let (Some(number), Some(former)) = (number, former.copied()) else {
             return Ok(());
         };

@@ -44,12 +44,17 @@ pub fn alerts(store: &Store) -> Result<Vec<(Labels, Shared<Alert>)>, AllocError>
     Ok(found)
 }
 
-/// Returns the label sets of the members of a group.
+/// Returns the label sets of the members of a group, in order.
 fn member_labels(store: &Store, group: &RouteLabels) -> Result<Listing<Labels>, AllocError>
     ensures { IfOk result (λ found. found
         ≡ map (λ member. member.0) (members store.now.state group.now)) }
 {
-    store.member_labels_of(group)
+    let mut found = Listing::new(store.alloc());
+    let members = store.members_of(group)?;
+    for (labels, _) in members.as_slice() {
+        found.push(labels.clone()?)?;
+    }
+    Ok(found)
 }
 
 /// Returns a group with its members.

@@ -19,7 +19,7 @@ pub returns-in_default-clause-labels : goal.returns-in_default-clause-labels
 returns-in_default-clause-labels c =
     let r = c.self.inside in
     let group = c.args.group.now in
-    ap labels_of_numbered c.new-found.ensures.items ∙ none_listed r.config r.placements r.timers r.members c.self.invariant.0 group (ap (λ (v : Rostered). number_of route_labels_cmp v.timers c.args.group.now) c.self.view_is ∙ sym c.look_up_timer-number.ensures.number ∙ c.in_default.is)
+    ap labels_of_numbered c.new-found.ensures.items ∙ none_listed r.config r.placements r.timers r.members c.self.invariant.0 group (sym c.number_of.ensures.number ∙ c.in_default.is)
     ∙ ap (λ (v : Rostered). labels_of_members (members_among v.config (map_of route_labels_cmp v.placements) group)) c.self.view_is
 
 pub unreachable-requires : goal.unreachable-requires
@@ -28,7 +28,7 @@ unreachable-requires c =
     let g = c.in-Some.number in
     let items = c.as_slice-member-items.result.now in
     let i = c.loop-member.member-index in
-    let at : number_of route_labels_cmp r.timers c.args.group.now ≡ Some g = ap (λ (v : Rostered). number_of route_labels_cmp v.timers c.args.group.now) c.self.view_is ∙ sym c.look_up_timer-number.ensures.number ∙ c.in-Some.is in
+    let at : number_of route_labels_cmp r.timers c.args.group.now ≡ Some g = sym c.number_of.ensures.number ∙ c.in-Some.is in
     let there : group_at r.members (get_or items i 0) ≡ Some g =
     c.in_ok-members.ensures.members (get_or items i 0) (subst (λ xs. IsTrue (list_any (λ m. get_or items i 0 == m) xs)) c.as_slice-member-items.ensures.value (among_at items i 0 c.loop-member-test.true)) in
     let by = member_of r.config r.placements r.timers r.members c.self.invariant.0 c.args.group.now c.self.invariant.1.numbered g at (get_or items i 0) there in
@@ -43,7 +43,7 @@ loop-member-preserved c =
     let n = get_or items c.loop-member.member-index 0 in
     let labels = c.in-Some-key_at.route_labels.now.labels in
     let found = c.loop-member.found.items in
-    let at : number_of route_labels_cmp r.timers group ≡ Some g = ap (λ (v : Rostered). number_of route_labels_cmp v.timers c.args.group.now) c.self.view_is ∙ sym c.look_up_timer-number.ensures.number ∙ c.in-Some.is in
+    let at : number_of route_labels_cmp r.timers group ≡ Some g = sym c.number_of.ensures.number ∙ c.in-Some.is in
     let there : group_at r.members n ≡ Some g =
     c.in_ok-members.ensures.members n (subst (λ xs. IsTrue (list_any (λ m. n == m) xs)) c.as_slice-member-items.ensures.value (among_at items c.loop-member.member-index 0 c.loop-member-test.true)) in
     let own : IsNumbered c.args.self.now.placements group.route (labels, n) =
@@ -59,7 +59,7 @@ pub returns-clause-labels : goal.returns-clause-labels
 returns-clause-labels c =
     let r = c.self.inside in
     let group = c.args.group.now in
-    let at : number_of route_labels_cmp r.timers group ≡ Some c.in-Some.number = ap (λ (v : Rostered). number_of route_labels_cmp v.timers c.args.group.now) c.self.view_is ∙ sym c.look_up_timer-number.ensures.number ∙ c.in-Some.is in
+    let at : number_of route_labels_cmp r.timers group ≡ Some c.in-Some.number = sym c.number_of.ensures.number ∙ c.in-Some.is in
     let found_are : numbers_of_listed c.loop-member.found.items ≡ c.in_ok-members.members.items = c.loop-member.invariant.numbers ∙ take_all _ _ c.loop-member-test.false ∙ c.as_slice-member-items.ensures.value in
     let named : All (IsNumbered r.placements group.route) (map numbered_labels c.loop-member.found.items) =
     subst (λ (v : Rostered). All (IsNumbered v.placements group.route) (map numbered_labels c.loop-member.found.items)) (sym c.self.view_is) c.loop-member.invariant.named in
@@ -71,7 +71,7 @@ pub returns-clause-numbers : goal.returns-clause-numbers
 returns-clause-numbers c =
     let r = c.self.inside in
     let group = c.args.group.now in
-    let at : number_of route_labels_cmp r.timers group ≡ Some c.in-Some.number = ap (λ (v : Rostered). number_of route_labels_cmp v.timers c.args.group.now) c.self.view_is ∙ sym c.look_up_timer-number.ensures.number ∙ c.in-Some.is in
+    let at : number_of route_labels_cmp r.timers group ≡ Some c.in-Some.number = sym c.number_of.ensures.number ∙ c.in-Some.is in
     let found_are : numbers_of_listed c.loop-member.found.items ≡ c.in_ok-members.members.items = c.loop-member.invariant.numbers ∙ take_all _ _ c.loop-member-test.false ∙ c.as_slice-member-items.ensures.value in
     let named : All (IsNumbered r.placements group.route) (map numbered_labels c.loop-member.found.items) =
     subst (λ (v : Rostered). All (IsNumbered v.placements group.route) (map numbered_labels c.loop-member.found.items)) (sym c.self.view_is) c.loop-member.invariant.named in
