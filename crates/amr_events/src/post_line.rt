@@ -107,6 +107,19 @@ fn usual_alerts(
             None => return Ok(None),
         }
     }
-    alerts.shrink_to_fit();
-    Ok(Some(Listing::from_vec(alerts)))
+    let alerts = listing_of(alloc, alerts)?;
+    Ok(Some(alerts))
+}
+
+/// Moves alerts to memory for just as many. To shrink the memory that they have instead would leave
+/// a hole behind each post, and what the events take later would be scattered over these.
+fn listing_of(
+    alloc: Global,
+    mut alerts: Vec<PostedAlert>,
+) -> Result<Listing<PostedAlert>, AllocError>
+    ensures { IfOk result (λ listing. listing ≡ alerts.items) }
+{
+    let mut moved = Vec::with_capacity(alloc, alerts.len())?;
+    moved.append(&mut alerts)?;
+    Ok(Listing::from_vec(moved))
 }
