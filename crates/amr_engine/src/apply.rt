@@ -184,12 +184,12 @@ fn notes_from(
 ) -> Result<Listing<Shared<Notification>>, AllocError>
     ensures { IfOk result (λ added. added ≡ drop from notes.now) }
 {
-    let mut added = Listing::new(alloc);
     if notes.len() < from {
-        return Ok(added);
+        return Ok(Listing::new(alloc));
     }
+    let mut added = Vec::with_capacity(alloc, notes.len() - from)?;
     for notification in &notes[from..] {
         added.push(notification.clone()?)?;
     }
-    Ok(added)
+    Ok(Listing::from_vec(added))
 }

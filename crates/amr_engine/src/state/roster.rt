@@ -1,13 +1,14 @@
 //! The configuration in force with the groups: their timers and their members. `Store` changes it.
 //! The group of a member depends on the configuration, so both are kept together. This is all that a
 //! change of the configuration drops.
-ghost use Rattle.std.specs.Prelude.{◌≡◌, ◌≢◌, ◌+◌, ◌++◌, [], IsTrue, Some, None, map, is_some, option_map, OnOk, IfOk};
+ghost use Rattle.std.specs.Prelude.{◌≡◌, ◌≢◌, ◌+◌, ◌++◌, ◌<◌, ◌⊎◌, ℕ, [], IsTrue, Some, None, length, map, is_some, option_map, slice_set, OnOk, IfOk};
 ghost use Rattle.std.specs.Option.{option_and_then};
 ghost use Rattle.amr_labels.specs.Labels.{label_set_cmp};
 ghost use Rattle.amr_labels.specs.Map as map;
 ghost use Rattle.amr_config.specs.Groups.{groups_of};
 ghost use Rattle.amr_config.specs.Stated.RuleMatches.{rule_matches};
-ghost use Rattle.amr_tables.specs.Numbered.{map_of, has_place, number_of, key_at, IsMarkOf, IsNumber, IsSetAt, IsValueOf, KeepsPlaces, SamePlaces, EntersAt, SameEntered, NoneEntered};
+ghost use Rattle.amr_tables.specs.Earliest.{moment_at, IsHeld, IsOrdered};
+ghost use Rattle.amr_tables.specs.Numbered.{map_of, has_place, number_of, key_at, rank_of, IsMarkOf, IsNumber, IsSetAt, IsValueOf, KeepsPlaces, SamePlaces, EntersAt, SameEntered, NoneEntered};
 ghost use Rattle.std.specs.List.{All, filter_map, cons_option};
 ghost use Rattle.amr_config.specs.RouteLabels.{route_labels_cmp};
 ghost use Rattle.amr_engine.specs.State.State.{member_on_route, group_key, members_among};
@@ -170,11 +171,11 @@ impl Roster {
             All (IsNumbered self.now.placements group.now.route)
             (map numbered_labels found.items)) }
     {
-        let mut found = Vec::new(self.alloc);
         let Some(number) = self.timers.number_of(group) else {
-            return Ok(found);
+            return Ok(Vec::new(self.alloc));
         };
         let members = self.members.numbers_of(number)?;
+        let mut found = Vec::with_capacity(self.alloc, members.len())?;
         for &member in members.as_slice() {
             let Some(route_labels) = self.placements.key_at(member) else {
                 unreachable!()
@@ -291,8 +292,16 @@ impl Roster {
         // The prover needs to see the type of moments here.
         let _start = Moment::START;
         let was_entered = self.timers.swap_at(number, timer);
-        self.flushes.set(&self.timers, number, flush);
-        self.removals.set(&self.timers, number, removal);
+        let former_flush = flush_moment(timer);
+        let former_removal = removal_moment(timer);
+        set_if_new(&mut self.flushes, &self.timers, number, former_flush, flush);
+        set_if_new(
+            &mut self.removals,
+            &self.timers,
+            number,
+            former_removal,
+            removal,
+        );
         was_entered
     }
 
@@ -410,6 +419,28 @@ fn push_member(
         found.push((labels.clone()?, alert.clone()?))?;
     }
     Ok(())
+}
+
+/// Sets the moment of a group's number, given the one that it has. Most changes of a timer leave one
+/// of its moments as it was, and then nothing is read.
+#[inline(always)]
+fn set_if_new(
+    moments: &mut Earliest,
+    timers: &Keyed<RouteLabels, GroupTimer>,
+    number: usize,
+    former: Option<u128>,
+    moment: Option<u128>,
+)
+    requires room { number < length moments.old.moments }
+    requires kept { IsOrdered (rank_of route_labels_cmp timers.now) moments.old }
+    requires former { former ≡ moment_at moments.old number }
+    ensures moments { moments.new.moments ≡ slice_set moments.old.moments number moment }
+    ensures held { (n : ℕ) → IsHeld moments.new n → IsHeld moments.old n ⊎ (n ≡ number) }
+    ensures kept { IsOrdered (rank_of route_labels_cmp timers.now) moments.new }
+{
+    if former != moment {
+        moments.set(timers, number, moment);
+    }
 }
 
 /// Returns the first timer of a kind of groups, given the moments of all.

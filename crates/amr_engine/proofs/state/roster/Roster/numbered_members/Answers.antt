@@ -19,7 +19,7 @@ pub returns-in_default-clause-labels : goal.returns-in_default-clause-labels
 returns-in_default-clause-labels c =
     let r = c.self.inside in
     let group = c.args.group.now in
-    ap labels_of_numbered c.new-found.ensures.items ∙ none_listed r.config r.placements r.timers r.members c.self.invariant.0 group (sym c.number_of.ensures.number ∙ c.in_default.is)
+    ap labels_of_numbered c.new.ensures.items ∙ none_listed r.config r.placements r.timers r.members c.self.invariant.0 group (sym c.number_of.ensures.number ∙ c.in_default.is)
     ∙ ap (λ (v : Rostered). labels_of_members (members_among v.config (map_of route_labels_cmp v.placements) group)) c.self.view_is
 
 pub unreachable-requires : goal.unreachable-requires
