@@ -58,7 +58,9 @@ fn put(
     insert_into_each(store, groups, labels, &stored)
 }
 
-/// Stores the valid alerts of a post, in order. Returns the positions of the others, from 1.
+/// Stores the valid alerts of a post, in order. Returns the positions of the others, from 1. If it has
+/// more alerts than there are groups that may be cached as quiet, it forgets all of these at once,
+/// and so needn't look for the groups of each alert.
 pub(crate) fn put_all(
     store: &mut Store,
     quiet_groups: &mut QuietGroups,
@@ -74,6 +76,9 @@ pub(crate) fn put_all(
         (valid_alerts store.old.state posted.now)) store.old store.new }
     ensures cache { OnOk result (IsTrueOf quiet_groups.new store.new.state) }
 {
+    if posted.len() > quiet_groups.known() {
+        quiet_groups.clear();
+    }
     let now = store.moment();
     let timeout = store.config().resolve_timeout();
     let mut skipped = Listing::new(store.alloc());

@@ -115,6 +115,11 @@ impl QuietGroups {
         }
     }
 
+    /// Returns how many groups there are of which something may be cached.
+    pub(crate) fn known(&self) -> usize {
+        self.times.next_number()
+    }
+
     /// Returns until when a group is cached as quiet from a moment on, in nanoseconds since 1970.
     /// That is the moment itself if it isn't cached as quiet then.
     pub(crate) fn quiet_from(&self, group: &RouteLabels, first: Moment) -> u128
