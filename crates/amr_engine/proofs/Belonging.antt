@@ -16,7 +16,7 @@ use Rattle.amr_config.specs.declared.route_labels.RouteLabels.{RouteLabels}
 use Rattle.amr_config.specs.RouteLabels.{on_route, route_labels_cmp, route_labels_cmp-IsAntisymmetric}
 use Rattle.amr_engine.specs.State.State.{State, group_key, members}
 use Rattle.amr_engine.specs.Flush.{Members, firing_of, resolved_of, labels_of, log_key_of, record_notification, notify_if_due, notify_receiver}
-use Rattle.amr_engine.specs.Partition.{IsGroupOf}
+use Rattle.amr_engine.specs.Notifying.{IsGroupOf}
 use Rattle.amr_engine.proofs.QuietStays.{equal}
 
 -- the group is that of its member, on the route of the group

@@ -7,7 +7,7 @@ pub mod Ahead
 pub mod Endings
 pub mod Preparing
 pub mod Putting
-pub mod Partitions
+pub mod Notifying
 pub mod Belonging
 pub mod Settling
 pub mod Copied

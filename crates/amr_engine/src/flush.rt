@@ -4,15 +4,16 @@
 //! timer, and are recognized: by the cache of quiet groups (`quiet.rt`) or by what is asked here.
 ghost use Rattle.std.specs.Prelude.{◌≡◌, ◌≤◌, ◌+◌, ◌*◌, ◌++◌, true, map, length, OnOk, IfOk};
 ghost use Rattle.std.specs.List.{fold, list_all};
-ghost use Rattle.std.specs.Option.{option_to_list};
+ghost use Rattle.std.specs.Option.{option_map_or, option_to_list};
 ghost use Rattle.amr_labels.specs.Map.{get};
 ghost use Rattle.amr_config.specs.Routing.{group_interval_of, integrations_of};
 ghost use Rattle.amr_time.specs.Time.{latest_read};
 ghost use Rattle.amr_rules.specs.Alerts.{is_resolved_at};
 ghost use Rattle.amr_engine.specs.State.State as state;
 ghost use Rattle.amr_engine.specs.State.Kept.{GrownBy, before_open_record};
-ghost use Rattle.amr_engine.specs.Flush.{let_through, resolved_of, labels_of, notified_firing, notified_resolved, notifications_of, notify_receiver, set_timer, drop_member, drop_resolved, run_pipeline, flush};
+ghost use Rattle.amr_engine.specs.Flush.{let_through, firing_of, resolved_of, notified_firing, notified_resolved, notifications_of, notify_if_due, notify_receiver, set_timer, drop_member, drop_resolved, run_pipeline, flush};
 ghost use Rattle.amr_engine.specs.Quiet.{with_timer_reset, IsStill};
+ghost use Rattle.amr_engine.specs.Notifying.{IsGroupOf, entry_of};
 ghost use Rattle.amr_engine.specs.CachedQuiet.{IsTrueOf};
 ghost use Rattle.amr_engine.specs.Weight.{turns, flush_weight};
 
@@ -25,22 +26,10 @@ use crate::state::{
 };
 use amr_config::RouteLabels;
 use amr_config::stated::Integration;
-use amr_labels::{LabelMap, Labels, Listing};
-use amr_rules::{LogEntry, labels_of};
+use amr_labels::{Listing, Shared};
+use amr_rules::LogEntry;
 use amr_time::Moment;
 use std::alloc::{AllocError, Global};
-
-/// The members of a flush that nothing mutes, split into firing and resolved ones, with their label
-/// sets.
-#[derive(Drop)]
-struct Partition {
-    firing: Vec<Member>,
-    resolved: Vec<Member>,
-    firing_labels: LabelMap<()>,
-    resolved_labels: LabelMap<()>,
-}
-
-ghost use Rattle.amr_engine.specs.Partition.{IsPartition, IsGroupOf, entry_of, notified_by, notified_with};
 
 /// Flushes a group at a moment. For a group that is cached as quiet, or found so, it only sets the
 /// group timer. It asks the cache first, then whether all integrations were notified of all
@@ -93,13 +82,23 @@ fn flush_unnotified(
     ensures cache { OnOk result (IsTrueOf quiet_groups.new store.new.state) }
 {
     let through = let_through(store, at, group.route, members)?;
-    if is_quiet(store, quiet_groups, at, group, members, through.as_slice())? {
+    if is_quiet(store, quiet_groups, at, group, members, &through)? {
         reset_timer(store, at, group)?;
         return Ok(true);
     }
     quiet_groups.forget_flushed(store.config(), group);
-    flush_in_full(store, at, group, members, through)?;
+    flush_in_full(store, at, group, members, or_all(members, &through))?;
     Ok(false)
+}
+
+/// Returns the members that are let through, which are all of them if there is no list of those.
+fn or_all<'m>(members: &'m [Member], through: &'m Option<Vec<Member>>) -> &'m [Member]
+    ensures { result.now ≡ option_map_or (λ through. through.items) through.now members.now }
+{
+    match through {
+        None => members,
+        Some(through) => through.as_slice(),
+    }
 }
 
 /// Returns true only if a flush of the group with these members only sets its timer, whatever mutes
@@ -126,29 +125,30 @@ fn is_all_notified(
     }
 }
 
-/// Returns true only if a flush of the group with these members, of which no stage mutes `through`,
-/// only sets its timer, and notes until when. The group isn't one that is quiet whatever mutes its
-/// members, so it isn't quiet if nothing does.
+/// Returns true only if a flush of the group with these members, of which `through` lists those that
+/// no stage mutes, only sets its timer, and notes until when. If no stage mutes any, it isn't asked,
+/// since the group isn't one that is quiet whatever mutes its members.
 fn is_quiet(
     store: &Store,
     quiet_groups: &mut QuietGroups,
     at: Moment,
     group: &RouteLabels,
     members: &[Member],
-    through: &[Member],
+    through: &Option<Vec<Member>>,
 ) -> Result<bool, AllocError>
     requires cache { IsTrueOf quiet_groups.old store.now.state }
     requires members { members.now ≡ state.members store.now.state group.now }
-    requires through { through.now ≡ let_through store.now.state at group.now.route members.now }
+    requires through { option_map_or (λ through. through.items) through.now members.now
+        ≡ let_through store.now.state at group.now.route members.now }
     ensures quiet { IfOk result (λ quiet. quiet ≡ true
         → flush at group.now store.now.state ≡ with_timer_reset at group.now store.now.state) }
     ensures cache { OnOk result (IsTrueOf quiet_groups.new store.now.state) }
 {
-    if through.len() == members.len() {
+    let Some(through) = through else {
         return Ok(false);
-    }
+    };
     let still = still(store, quiet_groups, at);
-    match quiet_until(store, at, group, members, through, still)? {
+    match quiet_until(store, at, group, members, through.as_slice(), still)? {
         None => Ok(false),
         Some(until) => {
             quiet_groups.note_quiet(store, at, group, until);
@@ -183,11 +183,11 @@ fn flush_in_full(
     at: Moment,
     group: &RouteLabels,
     members: &[Member],
-    through: Vec<Member>,
+    through: &[Member],
 ) -> Result<(), AllocError>
     requires late { at ≤ latest_read }
     requires members { members.now ≡ state.members store.old.state group.now }
-    requires through { through.items ≡ let_through store.old.state at group.now.route members.now }
+    requires through { through.now ≡ let_through store.old.state at group.now.route members.now }
     ensures ok { OnOk result (store.new.state ≡ flush at group.now store.old.state) }
     ensures kept { before_open_record store.new ≡ before_open_record store.old }
     ensures grown { GrownBy (2 * flush_weight store.old.state group.now) store.old store.new }
@@ -224,9 +224,9 @@ fn run_pipeline(
     at: Moment,
     group: &RouteLabels,
     members: &[Member],
-    through: Vec<Member>,
+    through: &[Member],
 ) -> Result<(), AllocError>
-    requires through { through.items ≡ let_through store.old.state at group.now.route members.now }
+    requires through { through.now ≡ let_through store.old.state at group.now.route members.now }
     requires group { IsGroupOf store.old.state.config group.now members.now }
     ensures ok { OnOk result (store.new.state
         ≡ run_pipeline at group.now members.now store.old.state) }
@@ -247,158 +247,92 @@ fn notify_receiver(
     store: &mut Store,
     at: Moment,
     group: &RouteLabels,
-    through: Vec<Member>,
+    through: &[Member],
 ) -> Result<(), AllocError>
     ensures ok { OnOk result (store.new.state
-        ≡ notify_receiver at group.now through.items store.old.state) }
+        ≡ notify_receiver at group.now through.now store.old.state) }
     ensures kept { before_open_record store.new ≡ before_open_record store.old }
     ensures grown { GrownBy (2 * turns store.old.state group.now) store.old store.new }
 {
     if through.is_empty() {
         return Ok(());
     }
-    let partition = partition_of(store.alloc(), at, through)?;
-    notify_integrations(store, at, group, partition)
-}
-
-/// Splits members into firing and resolved ones.
-fn partition_of(alloc: Global, at: Moment, members: Vec<Member>) -> Result<Partition, AllocError>
-    ensures { IfOk result (λ partition. IsPartition at members.items partition) }
-{
-    let mut firing = Vec::new(alloc);
-    let mut resolved = Vec::new(alloc);
-    for (labels, alert) in members {
-        if alert.get().is_resolved_at(at) {
-            resolved.push((labels, alert))?;
-        } else {
-            firing.push((labels, alert))?;
-        }
-    }
-    let firing_labels = labels_of(alloc, firing.as_slice())?;
-    let resolved_labels = labels_of(alloc, resolved.as_slice())?;
-    Ok(Partition {
-        firing,
-        resolved,
-        firing_labels,
-        resolved_labels,
-    })
+    let entry = LogEntry::of_alerts(store.alloc(), at, through)?;
+    let entry = Shared::new(store.alloc(), entry)?;
+    notify_integrations(store, at, group, through, &entry)
 }
 
 /// Runs the dedup check for each integration of the group's receiver, in order, and notifies those
-/// that are due. The last one gets the label sets themselves, and the others get copies.
+/// that are due. The log entries share the label sets.
 fn notify_integrations(
     store: &mut Store,
     at: Moment,
     group: &RouteLabels,
-    partition: Partition,
+    through: &[Member],
+    entry: &Shared<LogEntry>,
 ) -> Result<(), AllocError>
+    requires { entry.now ≡ entry_of at through.now }
     ensures ok { OnOk result (store.new.state
-        ≡ fold (notified_by at group.now partition) store.old.state
+        ≡ fold (notify_if_due at group.now through.now) store.old.state
         (integrations_of store.old.state.config group.now.route)) }
     ensures kept { before_open_record store.new ≡ before_open_record store.old }
     ensures grown { GrownBy (2 * turns store.old.state group.now) store.old store.new }
 {
     let config = store.config().clone()?;
-    let Some((last, others)) = config.integrations(group.route).split_last() else {
-        return Ok(());
-    };
-    notify_others(store, at, group, &partition, others)?;
-    let entry = LogEntry {
-        time: at,
-        firing: partition.firing_labels,
-        resolved: partition.resolved_labels,
-    };
-    let firing = partition.firing.as_slice();
-    let resolved = partition.resolved.as_slice();
-    notify_if_due(store, group, firing, resolved, entry, last)
-}
-
-/// Runs the dedup check for each of these integrations, in order, and notifies those that are due.
-fn notify_others(
-    store: &mut Store,
-    at: Moment,
-    group: &RouteLabels,
-    partition: &Partition,
-    others: &[Integration],
-) -> Result<(), AllocError>
-    ensures ok { OnOk result (store.new.state
-        ≡ fold (notified_by at group.now partition.now) store.old.state others.now) }
-    ensures kept { before_open_record store.new ≡ before_open_record store.old }
-    ensures grown { GrownBy (2 * length others.now) store.old store.new }
-{
-    let firing = partition.firing.as_slice();
-    let resolved = partition.resolved.as_slice();
-    for integration in others {
-        let entry = log_entry(at, partition)?;
-        notify_if_due(store, group, firing, resolved, entry, integration)?;
+    for integration in config.integrations(group.route) {
+        notify_if_due(store, at, group, through, entry, integration)?;
     }
     Ok(())
 }
 
 /// Runs the dedup check for one integration, and writes the log entry and appends the notification
 /// if they are due.
+#[tactic(auto, unfolding(crate::specs::Flush::notify_if_due))]
 fn notify_if_due(
     store: &mut Store,
+    at: Moment,
     group: &RouteLabels,
-    firing: &[Member],
-    resolved: &[Member],
-    entry: LogEntry,
+    through: &[Member],
+    entry: &Shared<LogEntry>,
     integration: &Integration,
 ) -> Result<(), AllocError>
+    requires { entry.now ≡ entry_of at through.now }
     ensures ok { OnOk result (store.new.state
-        ≡ notified_with group.now firing.now resolved.now entry store.old.state integration.now) }
+        ≡ notify_if_due at group.now through.now store.old.state integration.now) }
     ensures kept { before_open_record store.new ≡ before_open_record store.old }
     ensures grown { GrownBy 2 store.old store.new }
 {
-    let at = entry.time;
     let key = log_key(store.alloc(), store.config(), group, integration)?;
     let send_resolved = integration.send_resolved;
     let repeat_interval = store.config().repeat_interval(group.route);
     if store.write_log_if_due(&key, entry, send_resolved, repeat_interval)? {
-        let notification = notification_of(
-            store.alloc(),
-            at,
-            group,
-            key,
-            send_resolved,
-            firing,
-            resolved,
-        )?;
+        let alloc = store.alloc();
+        let notification = notification_of(alloc, at, group, key, send_resolved, through)?;
         append(store, notification)?;
     }
     Ok(())
 }
 
-/// Returns the log entry for a notification about these members.
-fn log_entry(at: Moment, partition: &Partition) -> Result<LogEntry, AllocError>
-    ensures { IfOk result (λ entry. entry ≡ entry_of at partition.now) }
-{
-    Ok(LogEntry {
-        time: at,
-        firing: partition.firing_labels.clone()?,
-        resolved: partition.resolved_labels.clone()?,
-    })
-}
-
-/// Returns the notification for an integration. Returns `None` if nothing fires and the integration
-/// doesn't send resolved alerts.
+/// Returns the notification for an integration about these members. Returns `None` if none of them
+/// fires and the integration doesn't send resolved alerts.
 fn notification_of(
     alloc: Global,
     at: Moment,
     group: &RouteLabels,
     key: LogKey,
     send_resolved: bool,
-    firing: &[Member],
-    resolved: &[Member],
+    members: &[Member],
 ) -> Result<Option<Notification>, AllocError>
     ensures { IfOk result (λ notification. option_to_list notification
-        ≡ notifications_of at group.now key send_resolved firing.now resolved.now) }
+        ≡ notifications_of at group.now key send_resolved (firing_of at members.now)
+        (resolved_of at members.now)) }
 {
+    let firing = notified_firing(alloc, at, members)?;
     if firing.is_empty() && !send_resolved {
         return Ok(None);
     }
     let resolved = if send_resolved {
-        notified_resolved(alloc, resolved)?
+        notified_resolved(alloc, at, members)?
     } else {
         Listing::new(alloc)
     };
@@ -406,41 +340,52 @@ fn notification_of(
         at,
         route: group.route,
         key,
-        firing: notified_firing(alloc, firing)?,
+        firing,
         resolved,
     }))
 }
 
-/// Returns the firing alerts of a notification.
-fn notified_firing(alloc: Global, members: &[Member]) -> Result<Listing<FiringAlert>, AllocError>
-    ensures { IfOk result (λ notified. notified ≡ map notified_firing members.now) }
+/// Returns what a notification says of the members that fire.
+fn notified_firing(
+    alloc: Global,
+    at: Moment,
+    members: &[Member],
+) -> Result<Listing<FiringAlert>, AllocError>
+    ensures { IfOk result (λ notified. notified
+        ≡ map notified_firing (firing_of at members.now)) }
 {
     let mut notified = Vec::with_capacity(alloc, members.len())?;
     for (labels, alert) in members {
-        notified.push(FiringAlert {
-            labels: labels.clone()?,
-            starts_at: alert.get().starts_at,
-            annotations: alert.get().annotations.clone()?,
-        })?;
+        if !alert.get().is_resolved_at(at) {
+            notified.push(FiringAlert {
+                labels: labels.clone()?,
+                starts_at: alert.get().starts_at,
+                annotations: alert.get().annotations.clone()?,
+            })?;
+        }
     }
     Ok(Listing::from_vec(notified))
 }
 
-/// Returns the resolved alerts of a notification.
+/// Returns what a notification says of the members that are resolved.
 fn notified_resolved(
     alloc: Global,
+    at: Moment,
     members: &[Member],
 ) -> Result<Listing<ResolvedAlert>, AllocError>
-    ensures { IfOk result (λ notified. notified ≡ map notified_resolved members.now) }
+    ensures { IfOk result (λ notified. notified
+        ≡ map notified_resolved (resolved_of at members.now)) }
 {
-    let mut notified = Vec::with_capacity(alloc, members.len())?;
+    let mut notified = Vec::new(alloc);
     for (labels, alert) in members {
-        notified.push(ResolvedAlert {
-            labels: labels.clone()?,
-            starts_at: alert.get().starts_at,
-            ends_at: alert.get().ends_at,
-            annotations: alert.get().annotations.clone()?,
-        })?;
+        if alert.get().is_resolved_at(at) {
+            notified.push(ResolvedAlert {
+                labels: labels.clone()?,
+                starts_at: alert.get().starts_at,
+                ends_at: alert.get().ends_at,
+                annotations: alert.get().annotations.clone()?,
+            })?;
+        }
     }
     Ok(Listing::from_vec(notified))
 }

@@ -1,6 +1,7 @@
 //! The stages of a flush that mute alerts, in the order of Alertmanager's notification pipeline. A
 //! flush notifies of no member that one of them mutes, and `explain` names the first that does.
-ghost use Rattle.std.specs.Prelude.{◌≡◌, IfOk};
+ghost use Rattle.std.specs.Prelude.{◌≡◌, is_some, IfOk};
+ghost use Rattle.std.specs.Option.{option_map_or};
 ghost use Rattle.amr_rules.specs.Muting.{inhibition_from};
 ghost use Rattle.amr_engine.specs.Flush.{let_through};
 ghost use Rattle.amr_engine.specs.Stages.{taken_away};
@@ -10,7 +11,7 @@ use crate::verdict::Finding;
 use amr_labels::Labels;
 use amr_rules::inhibited_by;
 use amr_time::Moment;
-use std::alloc::AllocError;
+use std::alloc::{AllocError, Global};
 
 /// Returns the first stage that mutes the alert of the label set with a number on a route:
 /// inhibition, active time intervals, mute time intervals, silences. Returns `None` if none does.
@@ -40,29 +41,65 @@ pub(crate) fn taken_away(
     }
 }
 
-/// Returns the members that no stage mutes. It works out first which silences match a member's
-/// labels, and which label sets can be sources of the rules that have it as a target, where that
-/// isn't cached.
+/// Returns the members that no stage mutes, or `None` if that is all of them, as it mostly is.
 pub(crate) fn let_through(
     store: &mut Store,
     at: Moment,
     route: usize,
     members: &[Member],
-) -> Result<Vec<Member>, AllocError>
-    ensures through { IfOk result (λ through. through.items
+) -> Result<Option<Vec<Member>>, AllocError>
+    ensures through { IfOk result (λ through.
+        option_map_or (λ through. through.items) through members.now
         ≡ let_through store.old.state at route members.now) }
     ensures same { store.new ≡ store.old }
 {
-    let mut through = Vec::with_capacity(store.alloc(), members.len())?;
-    for (labels, alert) in members {
-        let number = number_to_mute(store, labels);
-        store.cache_silences(at, number, labels);
-        cache_sources(store, number, labels)?;
-        if taken_away(store, at, route, number, labels)?.is_none() {
-            through.push((labels.clone()?, alert.clone()?))?;
+    let mut through = None;
+    for (index, (labels, alert)) in members.iter().enumerate() {
+        if is_muted(store, at, route, labels)? {
+            through = Some(or_copied(store.alloc(), through, &members[..index])?);
+        } else if let Some(kept) = &mut through {
+            kept.push((labels.clone()?, alert.clone()?))?;
         }
     }
     Ok(through)
+}
+
+/// Returns a list of members, or if there is none a copy of these.
+fn or_copied(
+    alloc: Global,
+    listed: Option<Vec<Member>>,
+    members: &[Member],
+) -> Result<Vec<Member>, AllocError>
+    ensures { IfOk result (λ copied. copied.items
+        ≡ option_map_or (λ listed. listed.items) listed members.now) }
+{
+    if let Some(listed) = listed {
+        return Ok(listed);
+    }
+    let mut copied = Vec::with_capacity(alloc, members.len())?;
+    for (labels, alert) in members {
+        copied.push((labels.clone()?, alert.clone()?))?;
+    }
+    Ok(copied)
+}
+
+/// Returns whether a stage mutes the alert of a label set on a route. It works out first which
+/// silences match the label set, and which label sets can be sources of the rules that have it as a
+/// target, where that isn't cached.
+fn is_muted(
+    store: &mut Store,
+    at: Moment,
+    route: usize,
+    labels: &Labels,
+) -> Result<bool, AllocError>
+    ensures muted { IfOk result (λ muted. muted
+        ≡ is_some (taken_away store.old.state at route labels.now)) }
+    ensures same { store.new ≡ store.old }
+{
+    let number = number_to_mute(store, labels);
+    store.cache_silences(at, number, labels);
+    cache_sources(store, number, labels)?;
+    Ok(taken_away(store, at, route, number, labels)?.is_some())
 }
 
 /// Returns the number of a label set, at which what mutes it is cached. Without rules and silences it

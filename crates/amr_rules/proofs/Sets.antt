@@ -5,7 +5,7 @@ use Rattle.std.specs.Ordering.{eq_by_cmp}
 use Rattle.std.specs.Cmp.{IsTotalOrder}
 use Rattle.std.specs.FinMap.{IsAntisymmetric}
 use Rattle.std.specs.List.{list_any}
-use Rattle.std.proofs.lemmas.List.{take_more, map-append, reverse-append}
+use Rattle.std.proofs.lemmas.List.{reverse-append}
 use Rattle.std.proofs.lemmas.List.Folds.{list_any-append}
 use Rattle.amr_labels.specs.Map.{get, insert, get-empty, get-insert, same_map}
 use Rattle.amr_labels.specs.Set.{from_list}
@@ -38,11 +38,3 @@ module _ {K : Type 0} {R : K → K → Ordering} (o : IsTotalOrder R) where
   from_list-reverse same ks =
       same_map o same _ _ (λ q.
       get-from_list (reverse ks) q ∙ ap (λ b. cond b (Some tt) None) (list_any-reverse (eq_by_cmp R q) ks) ∙ sym (get-from_list ks q))
-
--- the key of one more item is inserted into the set of the keys of those before
-pub one_more : {K A : Type 0} (R : K → K → Ordering) (items : List (K × A)) (i : ℕ) (item : K × A) → i < length items → item ≡ get_or items i item
-    → from_list {R = R} (reverse (map (λ x. x.0) (take (i + 1) items))) ≡ insert (from_list (reverse (map (λ x. x.0) (take i items)))) item.0 tt
-one_more R items i item within is =
-    ap (λ taken. from_list {R = R} (reverse (map (λ x. x.0) taken))) (take_more items i item within ∙ ap (λ next. take i items ++ next ∷ []) (sym is))
-    ∙ ap (λ keys. from_list {R = R} (reverse keys)) (map-append (λ x. x.0) (take i items) (item ∷ []))
-    ∙ ap (from_list {R = R}) (reverse-append (map (λ x. x.0) (take i items)) (item.0 ∷ []))

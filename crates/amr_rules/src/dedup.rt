@@ -1,8 +1,8 @@
 //! The notification log's dedup check, after `needsUpdate` in Alertmanager's notify package:
 //! whether the notification log is due for a new entry. A flush calls `needs_update` for each
 //! integration.
-ghost use Rattle.std.specs.Prelude.{◌≡◌, ◌+◌, nat_lt, IfOk, IfSome, map, Some, Bool, true};
-ghost use Rattle.std.specs.List.{list_all};
+ghost use Rattle.std.specs.Prelude.{◌≡◌, ◌+◌, nat_lt, IfOk, IfSome, map, not, Some, Bool, true};
+ghost use Rattle.std.specs.List.{filter, list_all};
 ghost use Rattle.std.specs.Option.{option_map};
 ghost use Rattle.amr_labels.specs.Map.{empty};
 ghost use Rattle.amr_labels.specs.Set as set;
@@ -24,6 +24,37 @@ pub struct LogEntry {
     pub resolved: LabelMap<()>,
 }
 
+impl LogEntry {
+    /// Builds the entry for a notification at a moment about these alerts.
+    pub fn of_alerts(
+        alloc: Global,
+        time: Moment,
+        alerts: &[(Labels, Shared<Alert>)],
+    ) -> Result<LogEntry, AllocError>
+        ensures time { IfOk result (λ entry. entry.time ≡ time) }
+        ensures firing { IfOk result (λ entry. entry.firing ≡ set.from_list (map (λ alert. alert.0)
+            (filter (λ alert. not (is_resolved_at time alert.1)) alerts.now))) }
+        ensures resolved { IfOk result (λ entry. entry.resolved ≡ set.from_list
+            (map (λ alert. alert.0) (filter (λ alert. is_resolved_at time alert.1) alerts.now))) }
+    {
+        let mut firing = LabelMap::new(alloc);
+        let mut resolved = LabelMap::new(alloc);
+        for (labels, alert) in alerts {
+            if alert.get().is_resolved_at(time) {
+                resolved.insert(labels.clone()?, ())?;
+            } else {
+                firing.insert(labels.clone()?, ())?;
+            }
+        }
+        Ok(LogEntry {
+            time,
+            firing,
+            resolved,
+        })
+    }
+}
+
+ghost use Rattle.amr_rules.specs.Alerts.{is_resolved_at};
 ghost use Rattle.amr_rules.specs.Dedup.{differs, needs_update};
 
 /// Returns whether the log is due for a new entry, which comes with a notification unless there is
@@ -139,18 +170,4 @@ pub fn is_subset(a: &LabelMap<()>, b: &LabelMap<()>) -> bool
         }
     }
     true
-}
-
-/// Returns the label sets of alerts as a set.
-pub fn labels_of(
-    alloc: Global,
-    alerts: &[(Labels, Shared<Alert>)],
-) -> Result<LabelMap<()>, AllocError>
-    ensures { IfOk result (λ made. made ≡ set.from_list (map (λ alert. alert.0) alerts.now)) }
-{
-    let mut made = LabelMap::new(alloc);
-    for (labels, _) in alerts {
-        made.insert(labels.clone()?, ())?;
-    }
-    Ok(made)
 }

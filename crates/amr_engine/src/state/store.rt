@@ -421,31 +421,33 @@ impl Store {
     pub fn write_log_if_due(
         &mut self,
         key: &LogKey,
-        entry: LogEntry,
+        entry: &Shared<LogEntry>,
         send_resolved: bool,
         repeat_interval: Span,
     ) -> Result<bool, AllocError>
         ensures due { IfOk result (λ due. due
-            ≡ is_due (map.get self.old.state.log key.now) entry send_resolved repeat_interval) }
+            ≡ is_due (map.get self.old.state.log key.now) entry.now send_resolved
+            repeat_interval) }
         ensures ok { IfOk result (λ due. self.new.state ≡ (if due
-            then record self.old.state { log = map.insert self.old.state.log key.now entry }
+            then record self.old.state { log = map.insert self.old.state.log key.now entry.now }
             else self.old.state)) }
         ensures kept { before_open_record self.new ≡ before_open_record self.old }
         ensures grown { GrownBy 1 self.old self.new }
     {
         let (number, former) = self.tables.log.look_up_number(key);
+        let written = entry.get();
         let is_due = needs_update(
             former,
-            &entry.firing,
-            &entry.resolved,
+            &written.firing,
+            &written.resolved,
             send_resolved,
-            entry.time,
+            written.time,
             repeat_interval,
         );
         if !is_due {
             return Ok(false);
         }
-        let change = Change::OfLog(key.clone()?, Some(Shared::new(self.alloc, entry)?));
+        let change = Change::OfLog(key.clone()?, Some(entry.clone()?));
         let number = make_room(&mut self.tables, &mut self.journal, number, &change)?;
         enter(&mut self.tables, &mut self.journal, number, change);
         Ok(true)

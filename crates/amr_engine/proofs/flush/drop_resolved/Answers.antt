@@ -1,5 +1,5 @@
 use Rattle.std.proofs.Common.{sym, ◌∙◌, true, false}
-use Rattle.amr_engine.proofs.Partitions.{on_ok, dropped}
+use Rattle.amr_engine.proofs.Notifying.{on_ok, dropped}
 use Rattle.amr_engine.proofs.flush.drop_resolved.Goals as goal
 
 pub returns-then-are_resolved-clause-ok : goal.returns-then-are_resolved-clause-ok

@@ -2,7 +2,7 @@ use Rattle.std.proofs.Common.{length, ap, ◌∙◌}
 use Rattle.std.specs.List.{fold}
 use Rattle.amr_engine.specs.State.State.{State, insert_into_groups}
 use Rattle.amr_engine.specs.Events.{with_config}
-use Rattle.amr_engine.proofs.Partitions.{on_ok}
+use Rattle.amr_engine.proofs.Notifying.{on_ok}
 use Rattle.amr_engine.proofs.Growing.{reloaded}
 use Rattle.amr_engine.proofs.reload.reload.Goals as goal
 

@@ -1,4 +1,5 @@
 use Rattle.std.proofs.Common.{Some, sym, ap, ◌∙◌}
+use Rattle.std.specs.Option.{option_copied}
 use Rattle.amr_labels.specs.Map.{get}
 use Rattle.amr_tables.specs.Numbered.{number_of}
 use Rattle.amr_engine.specs.declared.state.change.Change.TheVariants.{OfLog}
@@ -17,16 +18,17 @@ invariant_of-self c = kept_roomier c.self.inside c.make_room.new.tables c.make_r
 
 pub invariant_of-self-2 : goal.invariant_of-self-2
 invariant_of-self-2 c =
-    kept_put c.self.inside c.make_room.new.tables c.enter.new.tables c.make_room.new.journal c.enter.new.journal (OfLog c.in_ok-clone.field-0 (Some c.in_ok-new.field-0)) c.self.invariant c.make_room.ensures.roomier tt
+    kept_put c.self.inside c.make_room.new.tables c.enter.new.tables c.make_room.new.journal c.enter.new.journal (OfLog c.in_ok-clone.field-0 (Some c.in_ok-clone-2.field-0)) c.self.invariant c.make_room.ensures.roomier tt
     c.enter.ensures.state c.enter.ensures.entered c.in_ok-number.number c.in_ok-number.ensures.number c.enter.ensures.places
 
 pub returns-clause-kept : goal.returns-clause-kept
 returns-clause-kept c =
-    undone_put c.self.inside c.make_room.new.tables c.enter.new.tables c.make_room.new.journal c.enter.new.journal (OfLog c.in_ok-clone.field-0 (Some c.in_ok-new.field-0)) c.self.invariant c.make_room.ensures.roomier tt
+    undone_put c.self.inside c.make_room.new.tables c.enter.new.tables c.make_room.new.journal c.enter.new.journal (OfLog c.in_ok-clone.field-0 (Some c.in_ok-clone-2.field-0)) c.self.invariant c.make_room.ensures.roomier tt
     c.enter.ensures.state c.enter.ensures.entered ∙ ap before_open_record c.self.view_is
 
 pub returns-clause-due : goal.returns-clause-due
 returns-clause-due c =
     sym c.if-not-is_due.false ∙ c.needs_update-is_due.ensures
-    ∙ ap (λ former. is_due former c.args.entry c.args.send_resolved c.args.repeat_interval) c.look_up_number-number.ensures.value
-    ∙ ap (λ (v : Kept). is_due (get v.state.log c.args.key.now) c.args.entry c.args.send_resolved c.args.repeat_interval) c.self.view_is
+    ∙ ap (λ entry. is_due (option_copied c.look_up_number-number.result.1) entry c.args.send_resolved c.args.repeat_interval) c.get-written.ensures
+    ∙ ap (λ former. is_due former c.args.entry.now c.args.send_resolved c.args.repeat_interval) c.look_up_number-number.ensures.value
+    ∙ ap (λ (v : Kept). is_due (get v.state.log c.args.key.now) c.args.entry.now c.args.send_resolved c.args.repeat_interval) c.self.view_is

@@ -1,4 +1,4 @@
--- Notifying by members that are split into firing and resolved ones, and dropping members.
+-- Notifying each integration, and dropping members.
 use Rattle.std.specs.Prelude.{◌≡◌, Bool, true, false, not, ◌&&◌, List, [], ◌∷◌, ◌++◌, Some, length, ◌==◌, if◌then◌else◌, Result, Ok, Err}
 use Rattle.std.specs.Result.{OnOk}
 use Rattle.std.specs.List.{fold, list_all}
@@ -14,41 +14,20 @@ use Rattle.amr_rules.specs.Alerts.{is_resolved_at}
 use Rattle.amr_engine.specs.declared.state.notification.LogKey.{LogKey}
 use Rattle.amr_config.specs.declared.route_labels.RouteLabels.{RouteLabels}
 use Rattle.amr_engine.specs.State.State.{State}
-use Rattle.amr_engine.specs.declared.flush.Partition.{Partition}
 use Rattle.amr_engine.specs.Stages.{taken_away}
 use Rattle.amr_engine.specs.Quiet.{with_timer_reset}
 use Rattle.amr_engine.specs.Flush.{Members, let_through, firing_of, resolved_of, log_key_of, notifications_of, notify_if_due, notify_receiver, set_timer, mark_if_empty, drop_member, drop_resolved}
-use Rattle.amr_engine.specs.Partition.{IsPartition, notified_by}
 
 -- what follows for the value of a result
 pub on_ok : {T E : Type 0} (r : Result T E) (P Q : Type 0) → (P → Q) → OnOk r P → OnOk r Q
 on_ok (Ok x) P Q f p = f p
 on_ok (Err e) P Q f p = p
 
-abbrev turn : Moment → RouteLabels → Members → Members → LabelSets → LabelSets → State → Integration → State
-turn at group firing resolved firing_labels resolved_labels s integration =
-    let key : LogKey = log_key_of s.config group integration in
-    if needs_update (get s.log key) firing_labels resolved_labels integration.send_resolved at (repeat_interval_of s.config group.route)
-    then record s {
-      log = insert s.log key (record { time = at; firing = firing_labels; resolved = resolved_labels });
-      notes = s.notes ++ notifications_of at group key integration.send_resolved firing resolved;
-    } else s
-
--- notifying by split members is notifying by all
-pub notified : (at : Moment) (group : RouteLabels) (members : Members) (partition : Partition) → IsPartition at members partition → (s : State) (integration : Integration)
-    → notified_by at group partition s integration ≡ notify_if_due at group members s integration
-unfolding notify_if_due
-notified at group members partition is s integration = λ i. turn at group (is.firing i) (is.resolved i) (is.firing_labels i) (is.resolved_labels i) s integration
-
-fold_same : {A X : Type 0} (f g : A → X → A) → ((a : A) (x : X) → f a x ≡ g a x) → (a : A) (xs : List X) → fold f a xs ≡ fold g a xs
-fold_same f g same a [] = refl
-fold_same f g same a (x ∷ xs) = ap (λ b. fold f b xs) (same a x) ∙ fold_same f g same (g a x) xs
-
-pub notified_all : (at : Moment) (group : RouteLabels) (members : Members) (partition : Partition) (s : State) → (length members == 0) ≡ false → IsPartition at members partition
-    → fold (notified_by at group partition) s (integrations_of s.config group.route) ≡ notify_receiver at group members s
-notified_all at group [] partition s some is = absurd (cc)
-notified_all at group (member ∷ members) partition s some is =
-    fold_same (notified_by at group partition) (notify_if_due at group (member ∷ members)) (notified at group (member ∷ members) partition is) s (integrations_of s.config group.route)
+-- each integration has its turn if some member isn't muted
+pub each_turn : (at : Moment) (group : RouteLabels) (members : Members) (s : State) → (length members == 0) ≡ false
+    → fold (notify_if_due at group members) s (integrations_of s.config group.route) ≡ notify_receiver at group members s
+each_turn at group [] s some = absurd (cc)
+each_turn at group (member ∷ members) s some = refl
 
 abbrev emptied : Moment → RouteLabels → State → State
 emptied at group = set_timer group (λ timer. record timer { empty_since = Some at })
