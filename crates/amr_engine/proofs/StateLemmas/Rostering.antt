@@ -168,6 +168,13 @@ module _ (config : Config) (a : Numbered RouteLabels Alert) (gs : Numbered Route
           ] refl
           ∙ ap (group_number config gs other) (sym (value other))
 
+  -- a member's group has the number that is kept of the member
+  pub group_of_member : (key : RouteLabels) (n : ℕ) → number_of route_labels_cmp a key ≡ Some n → IsTrue (is_some (get (map_of route_labels_cmp a) key)) → (g : ℕ) × (group_at m n ≡ Some g) × (number_of route_labels_cmp gs (group_key config key) ≡ Some g)
+  group_of_member key n at is_member =
+      let alert = the_value (get (map_of route_labels_cmp a) key) is_member in
+      let group = place_number gs (group_key config key) (is.known key is_member) in
+      (group.0, is.grouped key n at ∙ ap (group_number config gs key) alert.1 ∙ group.1, group.1)
+
   -- a member has changed, or is still none
   pub grouped_stays : (b : Numbered RouteLabels Alert) (key : RouteLabels) (n g : ℕ) (w : Option Alert) → number_of route_labels_cmp a key ≡ Some n → number_of route_labels_cmp gs (group_key config key) ≡ Some g
       → b.numbers ≡ a.numbers → map_of route_labels_cmp b ≡ set (map_of route_labels_cmp a) key w → is_some (get (map_of route_labels_cmp a) key) ≡ is_some w → IsGrouped config b gs m

@@ -102,6 +102,11 @@ IsPlaceOf tables (OfTimer group timer) n = number_of route_labels_cmp tables.ros
 IsPlaceOf tables (OfLog key entry) n = number_of log_key_cmp tables.log key ≡ Some n
 IsPlaceOf tables _ n = Unit {0}
 
+-- a member has its place at the number
+abbrev pub KeepsMember : Tables → Change → ℕ → Type 0
+KeepsMember tables (OfMember member alert) n = number_of route_labels_cmp tables.roster.placements (member_on_route member) ≡ Some n
+KeepsMember tables _ n = Unit {0}
+
 -- no mark is new
 abbrev pub NoNewMark : Tables → Tables → Change → Type 0
 NoNewMark a b place = IsTrue (is_marked_at b place) → IsTrue (is_marked_at a place)

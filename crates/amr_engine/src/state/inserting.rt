@@ -96,11 +96,10 @@ fn insert_into_group(
     ensures kept { before_open_record store.new ≡ before_open_record store.old }
     ensures grown { GrownBy 2 store.old store.new }
 {
-    let wait = store.config().group_wait(group.route);
-    let before = store.timers().get(group).copied();
-    let after = timer_with(store.moment(), wait, alert.get(), before);
     let member = Membership::new(group, labels)?;
-    store.change(Change::OfMember(member, Some(alert.clone()?)))?;
+    let before = store.put_member(member, alert.clone()?)?;
+    let wait = store.config().group_wait(group.route);
+    let after = timer_with(store.moment(), wait, alert.get(), before);
     change_timer(store, group, before, after)
 }
 

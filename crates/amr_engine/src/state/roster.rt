@@ -1,14 +1,13 @@
 //! The configuration in force with the groups: their timers and their members. `Store` changes it.
 //! The group of a member depends on the configuration, so both are kept together. This is all that a
 //! change of the configuration drops.
-ghost use Rattle.std.specs.Prelude.{◌≡◌, ◌≢◌, ◌+◌, ◌++◌, ◌<◌, ◌⊎◌, ℕ, [], IsTrue, Some, None, length, map, is_some, option_map, slice_set, OnOk, IfOk};
+ghost use Rattle.std.specs.Prelude.{◌≡◌, ◌≢◌, ◌++◌, [], IsTrue, Some, None, map, is_some, option_map, OnOk, IfOk};
 ghost use Rattle.std.specs.Option.{option_and_then};
 ghost use Rattle.amr_labels.specs.Labels.{label_set_cmp};
 ghost use Rattle.amr_labels.specs.Map as map;
 ghost use Rattle.amr_config.specs.Groups.{groups_of};
 ghost use Rattle.amr_config.specs.Stated.RuleMatches.{rule_matches};
-ghost use Rattle.amr_tables.specs.Earliest.{moment_at, IsHeld, IsOrdered};
-ghost use Rattle.amr_tables.specs.Numbered.{map_of, has_place, number_of, key_at, rank_of, IsMarkOf, IsNumber, IsSetAt, IsValueOf, KeepsPlaces, SamePlaces, EntersAt, SameEntered, NoneEntered};
+ghost use Rattle.amr_tables.specs.Numbered.{map_of, has_place, number_of, IsMarkOf, IsNumber, IsSetAt, IsValueOf, KeepsPlaces, SamePlaces, EntersAt, SameEntered, NoneEntered};
 ghost use Rattle.std.specs.List.{All, filter_map, cons_option};
 ghost use Rattle.amr_config.specs.RouteLabels.{route_labels_cmp};
 ghost use Rattle.amr_engine.specs.State.State.{member_on_route, group_key, members_among};
@@ -252,6 +251,8 @@ impl Roster {
         ensures places { SamePlaces route_labels_cmp self.old.placements self.new.placements }
         ensures entered { EntersAt route_labels_cmp self.old.placements number
             self.new.placements }
+        ensures number { number_of route_labels_cmp self.new.placements
+            (member_on_route member.now) ≡ Some number }
         ensures timers { self.new.timers ≡ self.old.timers }
         ensures config { self.new.config ≡ self.old.config }
     {
@@ -262,6 +263,21 @@ impl Roster {
         let was_entered = self.placements.swap_at(number, alert);
         self.members.set(number, in_group);
         was_entered
+    }
+
+    /// Returns the timer of a member's group, given the number of the member's place. It compares no
+    /// keys.
+    pub(crate) fn timer_of(&self, number: usize) -> Option<GroupTimer>
+        ensures { (member : RouteLabels)
+            → number_of route_labels_cmp self.now.placements member ≡ Some number
+            → IsTrue (is_some (map.get (map_of route_labels_cmp self.now.placements) member))
+            → result ≡ map.get (map_of route_labels_cmp self.now.timers)
+            (group_key self.now.config member) }
+    {
+        match self.members.group_of(number) {
+            None => None,
+            Some(group) => self.timers.at(group).copied(),
+        }
     }
 
     /// Swaps it with another, which takes over what doesn't depend on the configuration, such as what
@@ -292,16 +308,8 @@ impl Roster {
         // The prover needs to see the type of moments here.
         let _start = Moment::START;
         let was_entered = self.timers.swap_at(number, timer);
-        let former_flush = flush_moment(timer);
-        let former_removal = removal_moment(timer);
-        set_if_new(&mut self.flushes, &self.timers, number, former_flush, flush);
-        set_if_new(
-            &mut self.removals,
-            &self.timers,
-            number,
-            former_removal,
-            removal,
-        );
+        self.flushes.set(&self.timers, number, flush);
+        self.removals.set(&self.timers, number, removal);
         was_entered
     }
 
@@ -419,28 +427,6 @@ fn push_member(
         found.push((labels.clone()?, alert.clone()?))?;
     }
     Ok(())
-}
-
-/// Sets the moment of a group's number, given the one that it has. Most changes of a timer leave one
-/// of its moments as it was, and then nothing is read.
-#[inline(always)]
-fn set_if_new(
-    moments: &mut Earliest,
-    timers: &Keyed<RouteLabels, GroupTimer>,
-    number: usize,
-    former: Option<u128>,
-    moment: Option<u128>,
-)
-    requires room { number < length moments.old.moments }
-    requires kept { IsOrdered (rank_of route_labels_cmp timers.now) moments.old }
-    requires former { former ≡ moment_at moments.old number }
-    ensures moments { moments.new.moments ≡ slice_set moments.old.moments number moment }
-    ensures held { (n : ℕ) → IsHeld moments.new n → IsHeld moments.old n ⊎ (n ≡ number) }
-    ensures kept { IsOrdered (rank_of route_labels_cmp timers.now) moments.new }
-{
-    if former != moment {
-        moments.set(timers, number, moment);
-    }
 }
 
 /// Returns the first timer of a kind of groups, given the moments of all.

@@ -8,17 +8,19 @@ use Rattle.amr_engine.proofs.state.inserting.insert_into_group.Goals as goal
 pub change_timer-requires : goal.change_timer-requires
 change_timer-requires c =
     let group = c.args.group.now in
-    c.copied-before.ensures ∙ c.get.ensures ∙ ap (λ m. get m group) c.timers.ensures ∙ ap (λ (s : State). get s.timers group) (sym c.in_ok-change.ensures.ok)
+    c.in_ok-before.ensures.timer ∙ ap (get c.args.store.now.state.timers) c.in_ok-member.ensures.group ∙ ap (λ (s : State). get s.timers group) (sym c.in_ok-before.ensures.ok)
 
 pub returns-clause-ok : goal.returns-clause-ok
 returns-clause-ok c =
     let s = c.args.store.now.state in
     let group = c.args.group.now in
     let route = group.route in
-    let wait : c.group_wait-wait.result ≡ group_wait_of s.config route = c.group_wait-wait.ensures ∙ ap (λ config. group_wait_of config route) c.config.ensures in
-    let found : c.copied-before.result ≡ get s.timers group = c.copied-before.ensures ∙ c.get.ensures ∙ ap (λ m. get m group) c.timers.ensures in
+    let put = c.in_ok-before.ensures.ok in
+    let wait : c.group_wait-wait.result ≡ group_wait_of s.config route = c.group_wait-wait.ensures ∙ ap (λ config. group_wait_of config route) c.config.ensures ∙ ap (λ (s : State). group_wait_of s.config route) put in
+    let found : c.in_ok-before.before ≡ get s.timers group = c.in_ok-before.ensures.timer ∙ ap (get s.timers) c.in_ok-member.ensures.group in
+    let now : c.moment.result ≡ s.moment = c.moment.ensures.value ∙ ap (λ (s : State). s.moment) put in
     let reset : c.timer_with-after.result ≡ timer_with s.moment (group_wait_of s.config route) c.args.alert.now (get s.timers group) =
-    c.timer_with-after.ensures ∙ (λ i. timer_with (c.moment.ensures.value i) (wait i) (c.get-2.ensures i) (found i)) in
+    c.timer_with-after.ensures ∙ (λ i. timer_with (now i) (wait i) (c.get.ensures i) (found i)) in
     on_ok c.change_timer.result _ _ (λ set. set
-    ∙ placed s c.change.new.self.state c.args.labels.now c.args.alert.now c.in_ok-clone.field-0 route group c.in_ok-member.member.member c.timer_with-after.result c.requires c.in_ok-member.ensures.member
-    c.in_ok-clone.ensures.cases reset c.in_ok-change.ensures.ok) c.change_timer.ensures.ok
+    ∙ placed s c.put_member.new.self.state c.args.labels.now c.args.alert.now c.in_ok-clone.field-0 route group c.in_ok-member.member.member c.timer_with-after.result c.requires c.in_ok-member.ensures.member
+    c.in_ok-clone.ensures.cases reset put) c.change_timer.ensures.ok

@@ -5,6 +5,7 @@ use Rattle.std.proofs.lemmas.Bool.{true≢false}
 use Rattle.amr_rules.specs.declared.alert.Alert.{Alert}
 use Rattle.std.specs.Prelude.{IfSome, slice_set, option_map}
 use Rattle.std.specs.Ordering.{eq_by_cmp}
+use Rattle.std.specs.FinMap.{find}
 use Rattle.amr_labels.specs.Map as map
 use Rattle.amr_tables.specs.Numbered.{map_of, has_place, is_entered, number_of}
 use Rattle.amr_config.specs.RouteLabels.{route_labels_cmp}
@@ -101,6 +102,11 @@ returns-clause-entered c = λ key at other.
     let number = ap (λ (t : Rostered). number_of route_labels_cmp t.placements key) c.self.view_is ∙ at in
     c.swap_at-was_entered.ensures.entered key number other ∙ ap (λ (t : Rostered). eq_by_cmp route_labels_cmp other key || is_entered route_labels_cmp t.placements other) c.self.view_is
 
+pub returns-clause-number : goal.returns-clause-number
+returns-clause-number c =
+    let key = member_on_route c.args.member.now in
+    ap (find route_labels_cmp key) c.swap_at-was_entered.ensures.keys ∙ ap (λ (t : Rostered). number_of route_labels_cmp t.placements key) c.self.view_is ∙ c.requires.place
+
 pub returns-then-is_some-clause-former : goal.returns-then-is_some-clause-former
 returns-then-is_some-clause-former c = λ key at.
     let number = ap (λ (t : Rostered). number_of route_labels_cmp t.placements key) c.self.view_is ∙ at in
@@ -123,3 +129,8 @@ pub returns-then-is_some-clause-entered : goal.returns-then-is_some-clause-enter
 returns-then-is_some-clause-entered c = λ key at other.
     let number = ap (λ (t : Rostered). number_of route_labels_cmp t.placements key) c.self.view_is ∙ at in
     c.swap_at.ensures.entered key number other ∙ ap (λ (t : Rostered). eq_by_cmp route_labels_cmp other key || is_entered route_labels_cmp t.placements other) c.self.view_is
+
+pub returns-then-is_some-clause-number : goal.returns-then-is_some-clause-number
+returns-then-is_some-clause-number c =
+    let key = member_on_route c.args.member.now in
+    ap (find route_labels_cmp key) c.swap_at.ensures.keys ∙ ap (λ (t : Rostered). number_of route_labels_cmp t.placements key) c.self.view_is ∙ c.requires.place

@@ -1,11 +1,10 @@
-use Rattle.std.proofs.Common.{◌≡◌, ◌||◌, Some, length, refl, sym, ap, ◌∙◌}
+use Rattle.std.proofs.Common.{◌≡◌, ◌||◌, Some, length, refl, ap, ◌∙◌}
 use Rattle.std.proofs.Math.Nat.{le_refl}
 use Rattle.std.specs.Prelude.{slice_set}
 use Rattle.std.specs.Ordering.{eq_by_cmp}
 use Rattle.amr_labels.specs.Map as map
 use Rattle.amr_tables.specs.Numbered.{map_of, number_of, has_place, is_entered}
 use Rattle.amr_engine.specs.State.Rostered.{Rostered}
-use Rattle.amr_engine.specs.State.Timed.{flush_moment, removal_moment}
 use Rattle.amr_config.specs.RouteLabels.{route_labels_cmp}
 use Rattle.amr_engine.proofs.StateLemmas.Rostering.{grouped_same}
 use Rattle.amr_engine.proofs.StateLemmas.Scheduling.{timer_set, ranked}
@@ -14,35 +13,21 @@ use Rattle.amr_engine.proofs.state.roster.Roster.swap_timer.Goals as goal
 pub swap_at-was_entered-requires : goal.swap_at-was_entered-requires
 swap_at-was_entered-requires c = (c.requires.0, ap (λ (v : Rostered). number_of route_labels_cmp v.timers c.requires.0) c.self.view_is ∙ c.requires.1)
 
-pub set_if_new-requires-clause-room : goal.set_if_new-requires-clause-room
-set_if_new-requires-clause-room c = c.self.invariant.1.flushed.room c.requires.0 c.args.number (ap (λ (v : Rostered). number_of route_labels_cmp v.timers c.requires.0) c.self.view_is ∙ c.requires.1)
+pub set-requires-clause-room : goal.set-requires-clause-room
+set-requires-clause-room c = c.self.invariant.1.flushed.room c.requires.0 c.args.number (ap (λ (v : Rostered). number_of route_labels_cmp v.timers c.requires.0) c.self.view_is ∙ c.requires.1)
 
-pub set_if_new-requires-2-clause-room : goal.set_if_new-requires-2-clause-room
-set_if_new-requires-2-clause-room c = c.self.invariant.1.removed.room c.requires.0 c.args.number (ap (λ (v : Rostered). number_of route_labels_cmp v.timers c.requires.0) c.self.view_is ∙ c.requires.1)
+pub set-requires-2-clause-room : goal.set-requires-2-clause-room
+set-requires-2-clause-room c = c.self.invariant.1.removed.room c.requires.0 c.args.number (ap (λ (v : Rostered). number_of route_labels_cmp v.timers c.requires.0) c.self.view_is ∙ c.requires.1)
 
-pub set_if_new-requires-clause-kept : goal.set_if_new-requires-clause-kept
-set_if_new-requires-clause-kept c =
+pub set-requires-clause-kept : goal.set-requires-clause-kept
+set-requires-clause-kept c =
     let t = c.self.inside in
     ranked route_labels_cmp t.timers c.swap_at-was_entered.new.self c.swap_at-was_entered.ensures.keys t.flushes c.self.invariant.1.flushed.ordered
 
-pub set_if_new-requires-2-clause-kept : goal.set_if_new-requires-2-clause-kept
-set_if_new-requires-2-clause-kept c =
+pub set-requires-2-clause-kept : goal.set-requires-2-clause-kept
+set-requires-2-clause-kept c =
     let t = c.self.inside in
     ranked route_labels_cmp t.timers c.swap_at-was_entered.new.self c.swap_at-was_entered.ensures.keys t.removals c.self.invariant.1.removed.ordered
-
-pub set_if_new-requires-clause-former : goal.set_if_new-requires-clause-former
-set_if_new-requires-clause-former c =
-    let group = c.requires.0 in
-    let n = c.args.number in
-    let number : number_of route_labels_cmp c.self.inside.timers group ≡ Some n = ap (λ (v : Rostered). number_of route_labels_cmp v.timers group) c.self.view_is ∙ c.requires.1 in
-    c.flush_moment-former_flush.ensures ∙ ap flush_moment (c.swap_at-was_entered.ensures.former group number) ∙ sym (c.self.invariant.1.flushed.timed group n number)
-
-pub set_if_new-requires-2-clause-former : goal.set_if_new-requires-2-clause-former
-set_if_new-requires-2-clause-former c =
-    let group = c.requires.0 in
-    let n = c.args.number in
-    let number : number_of route_labels_cmp c.self.inside.timers group ≡ Some n = ap (λ (v : Rostered). number_of route_labels_cmp v.timers group) c.self.view_is ∙ c.requires.1 in
-    c.removal_moment-former_removal.ensures ∙ ap removal_moment (c.swap_at-was_entered.ensures.former group number) ∙ sym (c.self.invariant.1.removed.timed group n number)
 
 pub invariant_of-self : goal.invariant_of-self
 invariant_of-self c =
@@ -51,9 +36,9 @@ invariant_of-self c =
     let n = c.args.number in
     let number : number_of route_labels_cmp t.timers group ≡ Some n = ap (λ (v : Rostered). number_of route_labels_cmp v.timers group) c.self.view_is ∙ c.requires.1 in (
       grouped_same t.config t.placements t.timers t.members c.self.invariant.0 t.placements c.swap_at-was_entered.new.self t.members refl refl c.swap_at-was_entered.ensures.keys (λ n. refl) (le_refl (length t.members.groups)) (le_refl t.members.count),
-      timer_set t.timers t.removals t.flushes c.self.invariant.1 c.swap_at-was_entered.new.self c.set_if_new-2.new.moments c.set_if_new.new.moments group n c.args.timer.now number c.swap_at-was_entered.ensures.keys (c.swap_at-was_entered.ensures.shown group number)
-          (c.set_if_new-2.ensures.moments ∙ ap (slice_set t.removals.moments n) c.removal_moment-removal.ensures) c.set_if_new-2.ensures.held c.set_if_new-2.ensures.kept
-          (c.set_if_new.ensures.moments ∙ ap (slice_set t.flushes.moments n) c.flush_moment-flush.ensures) c.set_if_new.ensures.held c.set_if_new.ensures.kept,
+      timer_set t.timers t.removals t.flushes c.self.invariant.1 c.swap_at-was_entered.new.self c.set-2.new.self c.set.new.self group n c.args.timer.now number c.swap_at-was_entered.ensures.keys (c.swap_at-was_entered.ensures.shown group number)
+          (c.set-2.ensures.moments ∙ ap (slice_set t.removals.moments n) c.removal_moment-removal.ensures) c.set-2.ensures.held c.set-2.ensures.kept
+          (c.set.ensures.moments ∙ ap (slice_set t.flushes.moments n) c.flush_moment-flush.ensures) c.set.ensures.held c.set.ensures.kept,
     )
 
 pub returns-clause-former : goal.returns-clause-former
