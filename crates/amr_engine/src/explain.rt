@@ -176,7 +176,7 @@ fn logged(labels: &Labels, timer: &GroupTimer, entry: Option<&Shared<LogEntry>>)
     ensures { result ≡ finding_of_entry labels.now timer.now (option_copied entry.entry) }
 {
     match entry {
-        Some(entry) if entry.get().firing.get(labels).is_some() => Finding::Told {
+        Some(entry) if entry.get().firing.contains(labels) => Finding::Told {
             at: entry.get().time,
         },
         _ => Finding::Due {

@@ -1,16 +1,17 @@
 -- Which items of a list are in a set, and when the log is due for a new entry while a list of alerts
 -- fires.
-use Rattle.std.proofs.Common.{◌≡◌, ◌+◌, Bool, true, false, not, ◌&&◌, ◌||◌, nat_eq, nat_lt, Some, List, [], ◌∷◌, length, map, refl, sym, ap, ◌∙◌, arith}
+use Rattle.std.proofs.Common.{◌≡◌, ◌≤◌, ◌<◌, ℕ, zero, suc, ◌+◌, Bool, Bor, Option, None, get_or, subst, true, false, not, ◌&&◌, ◌||◌, nat_eq, nat_lt, Some, List, [], ◌∷◌, length, map, refl, sym, ap, ◌∙◌, arith}
 use Rattle.std.specs.declared.cmp.Ordering.TheVariants.{Less, Equal, Greater}
 use Rattle.std.specs.Ordering.{eq_by_cmp, is_eq}
 use Rattle.std.specs.Option.{is_some}
-use Rattle.std.specs.List.{list_all, list_any}
+use Rattle.std.specs.Prelude.{IfSome, MatchOption}
+use Rattle.std.specs.List.{list_all, list_any, HoldsAt}
 use Rattle.std.specs.FinMap.{put}
 use Rattle.std.specs.FinMap.Entries.{by_order, is_some-find}
 use Rattle.std.proofs.lemmas.Bool.Decides.{nat_tests}
 use Rattle.std.proofs.lemmas.Cmp.{tied_itself}
 use Rattle.amr_labels.specs.Map.{entries, empty, entries-insert, get-entries}
-use Rattle.amr_labels.specs.Set.{is_subset, is_empty, contains, from_list}
+use Rattle.amr_labels.specs.Set.{is_subset, is_empty, contains, from_list, items}
 use Rattle.amr_labels.specs.Labels.{LabelSet, label_set_cmp, label_set_cmp_total, label_set_cmp-IsAntisymmetric}
 use Rattle.amr_time.specs.Time.{Moment, Span}
 use Rattle.amr_rules.specs.declared.alert.Alert.{Alert}
@@ -33,8 +34,29 @@ among found (e ∷ es) there =
     let here : contains found e.0 ≡ true = there e.0 (ap (λ r. is_eq r || list_any (eq_by_cmp label_set_cmp e.0) (map (λ e. e.0) es)) (tied_itself label_set_cmp_total e.0)) in
     (λ i. here i && among found es (λ q is. there q (ap (λ b. eq_by_cmp label_set_cmp q e.0 || b) is ∙ or_true (eq_by_cmp label_set_cmp q e.0))) i)
 
-pub items_contained : (found : LabelSets) → list_all (λ e. contains found e.0) (entries found) ≡ true
+items_contained : (found : LabelSets) → list_all (λ e. contains found e.0) (entries found) ≡ true
 items_contained found = among found (entries found) (λ q is. contains_listed found q ∙ is)
+
+one_of : (a b : Bool) → (a && b) ≡ true → a ≡ true
+one_of true b is = refl
+one_of false b is = is
+
+other_of : (a b : Bool) → (a && b) ≡ true → b ≡ true
+other_of true b is = is
+other_of false b is = absurd (cc)
+
+all_at : (f : LabelSet → Bool) (es : List (LabelSet × Unit {0})) (i : ℕ) (d : LabelSet) → list_all (λ e. f e.0) es ≡ true → i < length (map (λ e. e.0) es) → f (get_or (map (λ e. e.0) es) i d) ≡ true
+all_at f [] i d all low = absurd (omega arith)
+all_at f (e ∷ es) zero d all low = one_of _ _ all
+all_at f (e ∷ es) (suc i) d all low = all_at f es i d (other_of _ _ all) (omega arith)
+
+-- what is found at an index among them is in the set
+pub item_contained : (found : LabelSets) (xs : List LabelSet) (i : ℕ) (item : Option (Bor LabelSet)) → xs ≡ items found → MatchOption item (length xs ≤ i) (λ x. (i < length xs) × HoldsAt (λ y. x.now ≡ y) xs i)
+    → IfSome item (λ x. contains found x.now ≡ true)
+item_contained found xs i None are is = tt
+item_contained found xs i (Some x) are is =
+    let at : x.now ≡ get_or (items found) i x.now = is.1 x.now ∙ ap (λ ys. get_or ys i x.now) are in
+    ap (contains found) at ∙ all_at (contains found) (entries found) i x.now (items_contained found) (subst (λ ys. i < length ys) are is.0)
 
 -- ---- the set of a list is a subset if all items of the list are in the other set
 

@@ -8,7 +8,8 @@ ghost use Rattle.amr_labels.specs.Map.{empty};
 ghost use Rattle.amr_labels.specs.Set as set;
 
 use crate::alert::Alert;
-use amr_labels::{LabelMap, Labels, Shared};
+use crate::label_sets::LabelSets;
+use amr_labels::{Labels, Shared};
 use amr_time::{Moment, Span};
 use std::alloc::{AllocError, Global};
 
@@ -19,9 +20,9 @@ use std::alloc::{AllocError, Global};
 pub struct LogEntry {
     pub time: Moment,
     /// The label sets of the alerts that fired.
-    pub firing: LabelMap<()>,
+    pub firing: LabelSets,
     /// The label sets of the alerts that were resolved.
-    pub resolved: LabelMap<()>,
+    pub resolved: LabelSets,
 }
 
 impl LogEntry {
@@ -37,13 +38,13 @@ impl LogEntry {
         ensures resolved { IfOk result (λ entry. entry.resolved ≡ set.from_list
             (map (λ alert. alert.0) (filter (λ alert. is_resolved_at time alert.1) alerts.now))) }
     {
-        let mut firing = LabelMap::new(alloc);
-        let mut resolved = LabelMap::new(alloc);
+        let mut firing = LabelSets::new(alloc);
+        let mut resolved = LabelSets::new(alloc);
         for (labels, alert) in alerts {
             if alert.get().is_resolved_at(time) {
-                resolved.insert(labels.clone()?, ())?;
+                resolved.insert(labels.clone()?)?;
             } else {
-                firing.insert(labels.clone()?, ())?;
+                firing.insert(labels.clone()?)?;
             }
         }
         Ok(LogEntry {
@@ -65,8 +66,8 @@ ghost use Rattle.amr_rules.specs.Dedup.{differs, needs_update};
 #[tactic(auto, unfolding(crate::specs::Dedup::needs_update))]
 pub fn needs_update(
     entry: Option<&Shared<LogEntry>>,
-    firing: &LabelMap<()>,
-    resolved: &LabelMap<()>,
+    firing: &LabelSets,
+    resolved: &LabelSets,
     send_resolved: bool,
     now: Moment,
     repeat_interval: Span,
@@ -90,8 +91,8 @@ pub fn needs_update(
 /// Returns whether a new entry is due, given the last one.
 fn differs(
     entry: &LogEntry,
-    firing: &LabelMap<()>,
-    resolved: &LabelMap<()>,
+    firing: &LabelSets,
+    resolved: &LabelSets,
     send_resolved: bool,
     now: Moment,
     repeat_interval: Span,
@@ -128,12 +129,25 @@ pub fn is_due_while_firing(
 
 /// Returns whether the labels of each of these alerts are in a set. Alerts in the order of a set
 /// that has their labels alone take one comparison each.
-fn has_each(fired: &LabelMap<()>, alerts: &[(Labels, Shared<Alert>)]) -> bool
+fn has_each(fired: &LabelSets, alerts: &[(Labels, Shared<Alert>)]) -> bool
     ensures { result ≡ list_all (set.contains fired.now) (map (λ alert. alert.0) alerts.now) }
 {
-    let mut items = fired.iter();
-    for (labels, _) in alerts {
-        if !has(fired, labels, items.next()) {
+    let items = fired.as_slice();
+    for (index, (labels, _)) in alerts.iter().enumerate() {
+        if !has(fired, labels, items.get(index)) {
+            return false;
+        }
+    }
+    true
+}
+
+/// Returns whether each label set of `a` is in `b`. Equal sets take one comparison for each.
+fn is_subset(a: &LabelSets, b: &LabelSets) -> bool
+    ensures { result ≡ set.is_subset a.now b.now }
+{
+    let items = b.as_slice();
+    for (index, labels) in a.as_slice().iter().enumerate() {
+        if !has(b, labels, items.get(index)) {
             return false;
         }
     }
@@ -141,16 +155,16 @@ fn has_each(fired: &LabelMap<()>, alerts: &[(Labels, Shared<Alert>)]) -> bool
 }
 
 /// Returns whether labels are in a set. It looks for them only if they aren't this item of it.
-fn has(fired: &LabelMap<()>, labels: &Labels, item: Option<(&Labels, &())>) -> bool
-    requires { IfSome item (λ item. set.contains fired.now item.0.now ≡ true) }
-    ensures { result ≡ set.contains fired.now labels.now }
+fn has(label_sets: &LabelSets, labels: &Labels, item: Option<&Labels>) -> bool
+    requires { IfSome item (λ item. set.contains label_sets.now item.now ≡ true) }
+    ensures { result ≡ set.contains label_sets.now labels.now }
 {
-    if let Some((next, _)) = item {
+    if let Some(next) = item {
         if labels == next {
             return true;
         }
     }
-    fired.get(labels).is_some()
+    label_sets.contains(labels)
 }
 
 /// Returns whether a moment plus a span is strictly before now.
@@ -158,16 +172,4 @@ fn is_before(moment: Moment, span: Span, now: Moment) -> bool
     ensures { result ≡ nat_lt (moment + span) now }
 {
     moment.nanoseconds() + u128::from(span.nanoseconds()) < now.nanoseconds()
-}
-
-/// Returns whether each label set of `a` is in `b`.
-pub fn is_subset(a: &LabelMap<()>, b: &LabelMap<()>) -> bool
-    ensures { result ≡ set.is_subset a.now b.now }
-{
-    for (labels, _) in a.iter() {
-        if b.get(labels).is_none() {
-            return false;
-        }
-    }
-    true
 }

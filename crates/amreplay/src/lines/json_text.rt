@@ -9,7 +9,8 @@ ghost use Rattle.amreplay.specs.Lines.Printed.{data_line};
 
 use crate::lines::strings::{push_comma, push_string, push_texts};
 use amr_events::posts::SilenceId;
-use amr_labels::{LabelMap, Labels, Shared, Text, TextMap};
+use amr_labels::{Labels, Shared, Text, TextMap};
+use amr_rules::LabelSets;
 use amr_time::{Moment, push_moment};
 use itoa::Buffer;
 use std::alloc::{AllocError, Global};
@@ -113,21 +114,14 @@ impl ToJson for Labels {
     }
 }
 
-impl ToJson for LabelMap<()> {
+impl ToJson for LabelSets {
     ghost use Rattle.amr_labels.specs.Set.{items};
     ghost use Rattle.amreplay.specs.Lines.Printed.{label_sets_data};
 
     ghost json = { λ sets. label_sets_data (items sets) };
 
     fn push_json(&self, out: &mut String) -> Result<(), AllocError> {
-        out.push('[')?;
-        let mut later = false;
-        for (labels, _) in self.iter() {
-            push_comma(out, later)?;
-            labels.push_json(out)?;
-            later = true;
-        }
-        out.push(']')
+        push_array(out, "", self.as_slice())
     }
 }
 

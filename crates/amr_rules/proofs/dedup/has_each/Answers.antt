@@ -1,8 +1,5 @@
-use Rattle.std.proofs.Common.{refl, ap, ◌∙◌}
-use Rattle.std.specs.List.{list_all}
-use Rattle.amr_labels.specs.Set as set
-use Rattle.amr_rules.proofs.Subsets.{items_contained}
+use Rattle.amr_rules.proofs.Subsets.{item_contained}
 use Rattle.amr_rules.proofs.dedup.has_each.Goals as goal
 
-pub loop-labels-init : goal.loop-labels-init
-loop-labels-init c = record { decides = refl; items = ap (list_all (λ item. set.contains c.args.fired.now item.0)) c.iter-items.ensures ∙ items_contained c.args.fired.now }
+pub has-requires : goal.has-requires
+has-requires c = item_contained c.args.fired.now c.as_slice-items.result.now c.loop-index.index c.get.result c.as_slice-items.ensures c.get.ensures.lookup.3

@@ -1,11 +1,8 @@
-use Rattle.std.proofs.Common.{◌≡◌, true, map, drop}
+use Rattle.std.proofs.Common.{◌≡◌, map, drop}
 use Rattle.std.specs.List.{list_all}
 use Rattle.amr_labels.specs.Set as set
 use Rattle.amr_rules.proofs.dedup.has_each.Given as goal
 
--- what is left decides, and the items that are left are in the set
-abbrev pub invariant-loop-labels : goal.invariant-loop-labels
-invariant-loop-labels l = record {
-  decides : list_all (set.contains l.fired) (map (λ alert. alert.0) l.alerts) ≡ list_all (set.contains l.fired) (map (λ alert. alert.0) (drop l.labels-index l.alerts));
-  items : list_all (λ item. set.contains l.fired item.0) l.items ≡ true;
-}
+-- what is left decides
+abbrev pub invariant-loop-index : goal.invariant-loop-index
+invariant-loop-index l = list_all (set.contains l.fired) (map (λ alert. alert.0) l.alerts) ≡ list_all (set.contains l.fired) (map (λ alert. alert.0) (drop l.index l.alerts))
