@@ -8,20 +8,22 @@ use Rattle.std.proofs.Common.{length-append}
 use Rattle.std.proofs.Math.ListN.{get_or-append}
 use Rattle.std.proofs.Math.Seq.{get_or-append_seam}
 use Rattle.std.specs.declared.cmp.Ordering.TheVariants.{Less, Equal, Greater}
-use Rattle.std.specs.List.{filter}
+use Rattle.std.specs.List.{filter, filter_map}
 use Rattle.std.specs.Slice.{IsItemAt}
 use Rattle.std.proofs.lemmas.List.Elements.{All-nil, All-weaker}
 use Rattle.std.specs.Ordering.{is_eq, nat_cmp}
 use Rattle.std.specs.declared.cmp.Ordering.{Ordering}
 use Rattle.std.specs.Cmp.{nat_cmp_total, tied_itself}
 use Rattle.std.specs.FinMap.{nat_cmp-IsAntisymmetric}
-use Rattle.amr_labels.specs.Map.{entries, get, set, retain_keys, entries-retain_keys, get-set, get-retain_keys, same_map}
+use Rattle.amr_labels.specs.Map.{entries, empty, from_sorted, entries-from_sorted, same_entries_map, get, set, retain_keys, entries-retain_keys, get-set, get-retain_keys, same_map}
 use Rattle.amr_labels.specs.Labels.{LabelSet}
 use Rattle.amr_labels.specs.Matcher.ValueBits.{value_bits}
+use Rattle.amr_tables.specs.Numbered.{Numbered, map_of, entry_at}
 use Rattle.amr_time.specs.Time.{Moment}
 use Rattle.amr_rules.specs.declared.silence.Silence.{Silence}
 use Rattle.amr_rules.specs.declared.silence_period.SilencePeriod.{SilencePeriod}
 use Rattle.amr_rules.specs.Silences.{Silences}
+use Rattle.amr_rules.specs.Muting.{silencer_of}
 use Rattle.amr_rules.specs.SilencePeriods.{may_silence, period_of, silence_periods}
 use Rattle.amr_engine.specs.declared.indexes.cached_periods.CachedPeriods.{CachedPeriods}
 use Rattle.amr_engine.specs.declared.indexes.silence_change.SilenceChange.{SilenceChange}
@@ -181,3 +183,18 @@ pub all_seen : (silences : Silences) (changes : List ℕ) (found : CachedPeriods
     → found.periods ≡ silence_periods found.from found.labels silences
 all_seen silences changes found cached version =
     sym (all_picked found.periods) ∙ cached.others (λ id. true) (λ i le lt. absurd (omega arith)) ∙ all_picked (silence_periods found.from found.labels silences)
+
+-- ---- without places for silences there are none
+
+nothing_at : (cells : List (Option Silence)) → length cells ≡ 0 → (ns : List (ℕ × ℕ)) → filter_map (entry_at cells) ns ≡ []
+nothing_at [] none [] = refl
+nothing_at [] none (n ∷ ns) = nothing_at [] none ns
+nothing_at (cell ∷ cells) none ns = absurd (omega arith)
+
+no_silences : (t : Numbered ℕ Silence) → length t.cells ≡ 0 → map_of nat_cmp t ≡ empty
+unfolding map_of entries empty
+no_silences t none = ap (from_sorted {R = nat_cmp}) (nothing_at t.cells none t.numbers) ∙ same_entries_map _ _ (entries-from_sorted nat_cmp [] tt)
+
+pub no_silencer : (t : Numbered ℕ Silence) (at : Moment) (labels : LabelSet) → length t.cells ≡ 0 → None ≡ silencer_of at labels (map_of nat_cmp t)
+unfolding entries empty
+no_silencer t at labels none = ap (silencer_of at labels) (sym (no_silences t none))

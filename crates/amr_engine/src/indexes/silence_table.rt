@@ -111,7 +111,7 @@ impl SilenceTable {
 
     /// Returns the least id of a silence that mutes labels at a moment, or `None` if no silence
     /// does. It asks the silences' matchers only for labels of which it caches nothing at their
-    /// number.
+    /// number, and lists no silences if there never was one.
     pub fn silenced_by(
         &self,
         at: Moment,
@@ -123,6 +123,9 @@ impl SilenceTable {
         ensures exactly { IfOk result (λ found. is_silenced (map_of nat_cmp self.now) at labels.now
             ≡ is_some found) }
     {
+        if self.silences.next_number() == 0 {
+            return Ok(None);
+        }
         match self.periods(at, number, labels) {
             Some(periods) => Ok(silenced_in(at, periods)),
             None => silenced_by(self.alloc, &self.silences, at, labels),
