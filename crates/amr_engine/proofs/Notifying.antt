@@ -1,22 +1,18 @@
 -- Notifying each integration, and dropping members.
-use Rattle.std.specs.Prelude.{◌≡◌, Bool, true, false, not, ◌&&◌, List, [], ◌∷◌, ◌++◌, Some, length, ◌==◌, if◌then◌else◌, Result, Ok, Err}
+use Rattle.std.specs.Prelude.{◌≡◌, Bool, true, false, not, ◌&&◌, [], ◌∷◌, Some, length, ◌==◌, if◌then◌else◌, Result, Ok, Err}
 use Rattle.std.specs.Result.{OnOk}
 use Rattle.std.specs.List.{fold, list_all}
 use Rattle.std.proofs.Common.{refl, sym, ap, ◌∙◌}
-use Rattle.amr_labels.specs.Map.{get, insert}
-use Rattle.amr_rules.specs.Dedup.{LabelSets, needs_update}
 use Rattle.amr_labels.specs.Labels.{LabelSet}
 use Rattle.amr_time.specs.Time.{Moment}
-use Rattle.amr_config.specs.declared.stated.receiver.Integration.{Integration}
-use Rattle.amr_config.specs.Routing.{integrations_of, repeat_interval_of}
+use Rattle.amr_config.specs.Routing.{integrations_of}
 use Rattle.amr_rules.specs.declared.alert.Alert.{Alert}
 use Rattle.amr_rules.specs.Alerts.{is_resolved_at}
-use Rattle.amr_engine.specs.declared.state.notification.LogKey.{LogKey}
 use Rattle.amr_config.specs.declared.route_labels.RouteLabels.{RouteLabels}
 use Rattle.amr_engine.specs.State.State.{State}
 use Rattle.amr_engine.specs.Stages.{taken_away}
 use Rattle.amr_engine.specs.Quiet.{with_timer_reset}
-use Rattle.amr_engine.specs.Flush.{Members, let_through, firing_of, resolved_of, log_key_of, notifications_of, notify_if_due, notify_receiver, set_timer, mark_if_empty, drop_member, drop_resolved}
+use Rattle.amr_engine.specs.Flush.{Members, let_through, firing_of, resolved_of, notify_if_due, notify_receiver, set_timer, mark_if_empty, drop_member, drop_resolved}
 
 -- what follows for the value of a result
 pub on_ok : {T E : Type 0} (r : Result T E) (P Q : Type 0) → (P → Q) → OnOk r P → OnOk r Q

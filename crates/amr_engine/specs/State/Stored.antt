@@ -103,9 +103,9 @@ IsPlaceOf tables (OfLog key entry) n = number_of log_key_cmp tables.log key ≡ 
 IsPlaceOf tables _ n = Unit {0}
 
 -- a member has its place at the number
-abbrev pub KeepsMember : Tables → Change → ℕ → Type 0
-KeepsMember tables (OfMember member alert) n = number_of route_labels_cmp tables.roster.placements (member_on_route member) ≡ Some n
-KeepsMember tables _ n = Unit {0}
+abbrev pub HasMemberAt : Tables → Change → ℕ → Type 0
+HasMemberAt tables (OfMember member alert) n = number_of route_labels_cmp tables.roster.placements (member_on_route member) ≡ Some n
+HasMemberAt tables _ n = Unit {0}
 
 -- no mark is new
 abbrev pub NoNewMark : Tables → Tables → Change → Type 0

@@ -3,7 +3,7 @@
 ghost use Rattle.std.specs.Prelude.{◌≡◌, ◌<◌, OnOk, IfOk, IfSome};
 ghost use Rattle.amr_engine.specs.State.Records.{after_change};
 ghost use Rattle.amr_engine.specs.State.Fitting.{FitsOne};
-ghost use Rattle.amr_engine.specs.State.Stored.{shown_by, with_roster, IsEntered, IsPlaceOf, IsRoomier, KeepsMember, MorePlaces};
+ghost use Rattle.amr_engine.specs.State.Stored.{shown_by, with_roster, IsEntered, IsPlaceOf, IsRoomier, HasMemberAt, MorePlaces};
 
 use crate::state::change::Change;
 use crate::state::tables::Tables;
@@ -47,7 +47,7 @@ pub(crate) fn enter(
     requires fits { FitsOne (shown_by tables.old) change }
     ensures state { shown_by tables.new ≡ after_change (shown_by tables.old) change }
     ensures places { MorePlaces (with_roster tables.old change) tables.new }
-    ensures member { KeepsMember tables.new change number }
+    ensures member { HasMemberAt tables.new change number }
     ensures entered { IsEntered tables.old journal.old change tables.new journal.new }
 {
     let was_marked = tables.displace(number, &mut change);

@@ -267,7 +267,7 @@ impl Roster {
 
     /// Returns the timer of a member's group, given the number of the member's place. It compares no
     /// keys.
-    pub(crate) fn timer_of(&self, number: usize) -> Option<GroupTimer>
+    pub(crate) fn group_timer_of(&self, number: usize) -> Option<GroupTimer>
         ensures { (member : RouteLabels)
             → number_of route_labels_cmp self.now.placements member ≡ Some number
             → IsTrue (is_some (map.get (map_of route_labels_cmp self.now.placements) member))

@@ -414,7 +414,7 @@ impl Store {
         let change = Change::OfMember(member, Some(alert));
         let number = make_room(&mut self.tables, &mut self.journal, None, &change)?;
         enter(&mut self.tables, &mut self.journal, number, change);
-        Ok(self.tables.roster.timer_of(number))
+        Ok(self.tables.roster.group_timer_of(number))
     }
 
     /// Sets the next flush of a group and marks the group as flushed. Does nothing if there is no

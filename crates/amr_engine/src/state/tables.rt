@@ -10,7 +10,7 @@ ghost use Rattle.amr_engine.specs.State.Dues.{dues_of, due_by, least_due};
 ghost use Rattle.amr_engine.specs.Calm.{AreNoneRemoved};
 ghost use Rattle.amr_engine.specs.State.Records.{after_change};
 ghost use Rattle.amr_engine.specs.State.Fitting.{FitsOne, is_roster};
-ghost use Rattle.amr_engine.specs.State.Stored.{shown_by, change_back, with_roster, SameValues, MorePlaces, KeepsMember, IsSound, IsPlaceOf, IsUnmarked, NoNewMark, NewMarkAt, is_marked_at};
+ghost use Rattle.amr_engine.specs.State.Stored.{shown_by, change_back, with_roster, SameValues, MorePlaces, HasMemberAt, IsSound, IsPlaceOf, IsUnmarked, NoNewMark, NewMarkAt, is_marked_at};
 
 use crate::indexes::SilenceTable;
 use crate::state::alert_table::AlertTable;
@@ -90,7 +90,7 @@ impl Tables {
         ensures was_marked { result ≡ is_marked_at self.old change.old }
         ensures marked { is_marked_at self.new change.old ≡ not (is_roster change.old) }
         ensures places { MorePlaces (with_roster self.old change.old) self.new }
-        ensures member { KeepsMember self.new change.old number }
+        ensures member { HasMemberAt self.new change.old number }
         ensures roster { self.new.is_roster_entered
             ≡ (is_roster change.old || self.old.is_roster_entered) }
         ensures marks { (place : Change)

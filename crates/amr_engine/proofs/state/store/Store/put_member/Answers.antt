@@ -1,4 +1,4 @@
-use Rattle.std.proofs.Common.{◌≡◌, Some, cond, is_some, sym, ap, subst, ◌∙◌}
+use Rattle.std.proofs.Common.{Some, cond, is_some, sym, ap, subst, ◌∙◌}
 use Rattle.std.specs.Ordering.{is_eq}
 use Rattle.std.specs.Cmp.{tied_itself}
 use Rattle.amr_labels.specs.Map.{get, get-set}
@@ -41,6 +41,6 @@ returns-clause-timer c =
     let placements = map_of route_labels_cmp t.roster.placements in
     let there = ap (λ (s : State). get s.placements key) c.enter.ensures.state ∙ get-set route_labels_cmp_total placements key (Some c.args.alert) key
     ∙ ap (λ r. cond (is_eq r) (Some c.args.alert) (get placements key)) (tied_itself route_labels_cmp_total key) in
-    c.timer_of.ensures key c.enter.ensures.member (ap is_some there)
+    c.group_timer_of.ensures key c.enter.ensures.member (ap is_some there)
     ∙ ap (λ (s : State). get s.timers (group_key s.config key)) (c.enter.ensures.state ∙ ap (λ s. after_change s (OfMember c.args.member (Some c.args.alert))) (same_state c.self.inside.tables t c.make_room.ensures.roomier.values))
     ∙ ap (λ (k : Kept). get k.state.timers (group_key k.state.config key)) c.self.view_is ∙ ap (get c.args.self.now.state.timers) (sym c.requires)

@@ -1,6 +1,5 @@
-use Rattle.std.proofs.Common.{◌≡◌, ℕ, IsTrue, Option, None, Some, is_some, subst, sym, ap, ◌∙◌}
+use Rattle.std.proofs.Common.{◌≡◌, ℕ, IsTrue, Option, None, Some, is_some, subst, sym, ◌∙◌}
 use Rattle.amr_labels.specs.Map as map
-use Rattle.amr_rules.specs.declared.alert.Alert.{Alert}
 use Rattle.amr_tables.specs.Numbered.{map_of, number_of}
 use Rattle.amr_config.specs.declared.route_labels.RouteLabels.{RouteLabels}
 use Rattle.amr_config.specs.RouteLabels.{route_labels_cmp}
@@ -9,7 +8,7 @@ use Rattle.amr_engine.specs.State.State.{group_key}
 use Rattle.amr_engine.specs.State.Rostered.{Rostered}
 use Rattle.amr_engine.proofs.StateLemmas.Rostering.{group_of_member}
 use Rattle.amr_engine.proofs.StateLemmas.Scheduling.{not_none}
-use Rattle.amr_engine.proofs.state.roster.Roster.timer_of.Goals as goal
+use Rattle.amr_engine.proofs.state.roster.Roster.group_timer_of.Goals as goal
 
 -- the timer is that of the group of each member with the number, which is one
 abbrev IsTimerOf : ℕ → Option GroupTimer → Rostered → Type 0
