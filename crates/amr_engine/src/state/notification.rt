@@ -28,15 +28,12 @@ impl Exact for GroupTimer {
 /// The key of an entry of the notification log. Alertmanager's log has one entry for each
 /// integration of a receiver and each group key; the group key is made of the matchers on the way
 /// to the route, and the group labels. Listings are in the order of keys, which is that of the
-/// fields. Its hash is of what tells most keys apart, and of numbers alone.
-#[derive(PartialEq, Eq, PartialOrd, Ord, Drop)]
-#[derive_where(Hash)]
+/// fields.
+#[derive(PartialEq, Eq, PartialOrd, Ord, Hash, Drop)]
 pub struct LogKey {
     /// The name of the receiver.
-    #[derive_where(skip(Hash))]
     pub receiver: Text,
     /// The integration's kind, such as `webhook`.
-    #[derive_where(skip(Hash))]
     pub kind: Text,
     /// The integration's index among those of its kind at the receiver, from 0.
     pub place: usize,
