@@ -1,14 +1,10 @@
 -- A flush writes an entry again with the same sets only after the repeat interval.
-use Rattle.std.specs.Prelude.{◌≡◌, ℕ, ◌⊎◌, ◌<◌, ◌+◌, Bool, true, false, not, ◌&&◌, ◌||◌, List, [], ◌∷◌, Some, is_some, if◌then◌else◌, cond, nat_lt}
+use Rattle.std.specs.Prelude.{◌≡◌, ℕ, ◌⊎◌, ◌<◌, ◌+◌, Bool, true, false, not, ◌&&◌, ◌||◌, [], ◌∷◌, Some, if◌then◌else◌, cond, nat_lt}
 use Rattle.std.specs.Ordering.{eq_by_cmp}
 use Rattle.std.proofs.Common.{refl, sym, ap, ◌∙◌, subst, inl, inr, arith}
 use Rattle.std.proofs.lemmas.Bool.Decides.{nat_tests}
 use Rattle.std.proofs.lemmas.List.Folds.{list_all-map}
-use Rattle.std.specs.List.{AllByRecursion, list_all}
-use Rattle.std.specs.FinMap.{find}
-use Rattle.amr_labels.specs.Map.{get, entries, get-insert, get-entries, entries-sorted}
-use Rattle.amr_labels.specs.Labels.{LabelSet, label_set_cmp, label_set_cmp_total}
-use Rattle.amr_labels.proofs.Pairs.{own_values}
+use Rattle.amr_labels.specs.Map.{get, entries, get-insert}
 use Rattle.amr_labels.specs.Set.{contains, is_subset, is_empty}
 use Rattle.amr_time.specs.Time.{Moment, Span}
 use Rattle.amr_config.specs.declared.stated.receiver.Integration.{Integration}
@@ -16,6 +12,7 @@ use Rattle.amr_config.specs.Stated.Config.{Config}
 use Rattle.amr_config.specs.Routing.{integrations_of, repeat_interval_of}
 use Rattle.amr_rules.specs.declared.dedup.LogEntry.{LogEntry}
 use Rattle.amr_rules.specs.Dedup.{LabelSets, needs_update}
+use Rattle.amr_rules.proofs.Subsets.{items_contained}
 use Rattle.amr_engine.specs.declared.state.notification.LogKey.{LogKey}
 use Rattle.amr_config.specs.declared.route_labels.RouteLabels.{RouteLabels}
 use Rattle.amr_engine.specs.State.Dues.{Due}
@@ -31,16 +28,8 @@ use Rattle.amr_engine.proofs.Told.{fold_holds, drop_holds}
 
 -- ---- the dedup check of the sets that are there already
 
-each_contained : (found : LabelSets) (es : List (LabelSet × Unit {0})) → AllByRecursion (λ e. find label_set_cmp e.0 (entries found) ≡ Some e.1) es → list_all (λ e. contains found e.0) es ≡ true
-each_contained found [] own = refl
-each_contained found (e ∷ es) own =
-    let here : contains found e.0 ≡ true = ap is_some (get-entries found e.0 ∙ own.0) in
-    λ i. here i && each_contained found es own.1 i
-
 all_contained : (found : LabelSets) → is_subset found found ≡ true
-all_contained found =
-    list_all-map (contains found) (λ e. e.0) (entries found)
-    ∙ each_contained found (entries found) (own_values label_set_cmp_total (entries found) (entries-sorted found))
+all_contained found = list_all-map (contains found) (λ e. e.0) (entries found) ∙ items_contained found
 
 only_late : (all ended none sent all_resolved late : Bool) → all ≡ true → ended ≡ none → all_resolved ≡ true
     → (not all || (none && not ended) || (not none && ((sent && not all_resolved) || late))) ≡ true → late ≡ true

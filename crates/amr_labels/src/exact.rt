@@ -11,10 +11,6 @@ impl<T: Exact> Exact for Option<T> {
     ghost exact = { λ x y same. elim x as (λ a. ⟦<Option<T> as Clone>⟧.is_clone a y → y ≡ a) [ None ↦ elim y as (λ b. ⟦<Option<T> as Clone>⟧.is_clone None b → b ≡ None) [ None ↦ λ h. refl | Some w ↦ λ h. absurd h ] | Some v ↦ elim y as (λ b. ⟦<Option<T> as Clone>⟧.is_clone (Some v) b → b ≡ Some v) [ None ↦ λ h. absurd h | Some w ↦ λ h. ap (λ z. Some z) (T.exact v w h) ] ] same };
 }
 
-impl Exact for () {
-    ghost exact = { λ x y same. same };
-}
-
 impl Exact for bool {
     ghost exact = { λ x y same. same };
 }

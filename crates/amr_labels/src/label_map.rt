@@ -1,10 +1,9 @@
-//! A map from label sets to values. As a set of label sets it is the content of a log entry. The
-//! tables of the state are no such maps, but each a `Keyed` of `amr_tables`.
-ghost use Rattle.std.specs.Prelude.{◌≡◌, ◌==◌, List, ℕ, OnOk, OnErr};
+//! A map from label sets to values, such as the sources of an inhibition rule. The tables of the
+//! state are no such maps, but each a `Keyed` of `amr_tables`.
+ghost use Rattle.std.specs.Prelude.{◌≡◌, List, ℕ, OnOk, OnErr};
 ghost use Rattle.std.specs.Option.{option_copied};
 ghost use Rattle.amr_labels.specs.Map as map;
 
-use crate::exact::Exact;
 use crate::labels::Labels;
 use std::alloc::{AllocError, Global};
 use std::collections::BTreeMap;
@@ -65,32 +64,4 @@ impl<V: Drop> LabelMap<V> {
     {
         self.tree.iter()
     }
-
-    /// Returns the number of values.
-    pub fn len(&self) -> usize
-        ensures { result ≡ map.len self.now }
-    {
-        self.tree.len()
-    }
-
-    /// Returns whether there is no value.
-    pub fn is_empty(&self) -> bool
-        ensures { result ≡ (map.len self.now == 0) }
-    {
-        self.len() == 0
-    }
-}
-
-impl<V: Exact + Drop> Clone for LabelMap<V> {
-    ghost is_clone = { λ a b. b ≡ a };
-
-    fn clone(&self) -> Result<LabelMap<V>, AllocError> {
-        Ok(LabelMap {
-            tree: self.tree.clone()?,
-        })
-    }
-}
-
-impl<V: Exact + Drop> Exact for LabelMap<V> {
-    ghost exact = { λ x y same. same };
 }

@@ -2,17 +2,16 @@
 -- fires.
 use Rattle.std.proofs.Common.{◌≡◌, ◌≤◌, ◌<◌, ℕ, zero, suc, ◌+◌, Bool, Bor, Option, None, get_or, subst, true, false, not, ◌&&◌, ◌||◌, nat_eq, nat_lt, Some, List, [], ◌∷◌, length, map, refl, sym, ap, ◌∙◌, arith}
 use Rattle.std.specs.declared.cmp.Ordering.TheVariants.{Less, Equal, Greater}
-use Rattle.std.specs.Ordering.{eq_by_cmp, is_eq}
 use Rattle.std.specs.Option.{is_some}
 use Rattle.std.specs.Prelude.{IfSome, MatchOption}
-use Rattle.std.specs.List.{list_all, list_any, HoldsAt}
-use Rattle.std.specs.FinMap.{put}
-use Rattle.std.specs.FinMap.Entries.{by_order, is_some-find}
+use Rattle.std.specs.List.{AllByRecursion, list_all, HoldsAt}
+use Rattle.std.specs.FinMap.{find, put}
+use Rattle.std.specs.FinMap.Entries.{by_order}
 use Rattle.std.proofs.lemmas.Bool.Decides.{nat_tests}
-use Rattle.std.proofs.lemmas.Cmp.{tied_itself}
-use Rattle.amr_labels.specs.Map.{entries, empty, entries-insert, get-entries}
+use Rattle.amr_labels.specs.Map.{entries, empty, entries-insert, entries-sorted, get-entries}
 use Rattle.amr_labels.specs.Set.{is_subset, is_empty, contains, from_list, items}
 use Rattle.amr_labels.specs.Labels.{LabelSet, label_set_cmp, label_set_cmp_total, label_set_cmp-IsAntisymmetric}
+use Rattle.amr_labels.proofs.Pairs.{own_values}
 use Rattle.amr_time.specs.Time.{Moment, Span}
 use Rattle.amr_rules.specs.declared.alert.Alert.{Alert}
 use Rattle.amr_rules.specs.declared.dedup.LogEntry.{LogEntry}
@@ -20,22 +19,14 @@ use Rattle.amr_rules.specs.Dedup.{LabelSets, needs_update}
 
 -- ---- the items of a set are in it
 
-or_true : (b : Bool) → (b || true) ≡ true
-or_true true = refl
-or_true false = refl
+each_contained : (found : LabelSets) (es : List (LabelSet × Unit {0})) → AllByRecursion (λ e. find label_set_cmp e.0 (entries found) ≡ Some e.1) es → list_all (λ e. contains found e.0) es ≡ true
+each_contained found [] own = refl
+each_contained found (e ∷ es) own =
+    let here : contains found e.0 ≡ true = ap is_some (get-entries found e.0 ∙ own.0) in
+    λ i. here i && each_contained found es own.1 i
 
-contains_listed : (found : LabelSets) (q : LabelSet) → contains found q ≡ list_any (eq_by_cmp label_set_cmp q) (map (λ e. e.0) (entries found))
-contains_listed found q = ap is_some (get-entries found q) ∙ is_some-find label_set_cmp q (entries found)
-
-among : (found : LabelSets) (es : List (LabelSet × Unit {0})) → ((q : LabelSet) → list_any (eq_by_cmp label_set_cmp q) (map (λ e. e.0) es) ≡ true → contains found q ≡ true)
-    → list_all (λ e. contains found e.0) es ≡ true
-among found [] there = refl
-among found (e ∷ es) there =
-    let here : contains found e.0 ≡ true = there e.0 (ap (λ r. is_eq r || list_any (eq_by_cmp label_set_cmp e.0) (map (λ e. e.0) es)) (tied_itself label_set_cmp_total e.0)) in
-    (λ i. here i && among found es (λ q is. there q (ap (λ b. eq_by_cmp label_set_cmp q e.0 || b) is ∙ or_true (eq_by_cmp label_set_cmp q e.0))) i)
-
-items_contained : (found : LabelSets) → list_all (λ e. contains found e.0) (entries found) ≡ true
-items_contained found = among found (entries found) (λ q is. contains_listed found q ∙ is)
+pub items_contained : (found : LabelSets) → list_all (λ e. contains found e.0) (entries found) ≡ true
+items_contained found = each_contained found (entries found) (own_values label_set_cmp_total (entries found) (entries-sorted found))
 
 one_of : (a b : Bool) → (a && b) ≡ true → a ≡ true
 one_of true b is = refl
