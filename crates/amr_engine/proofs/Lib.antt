@@ -8,7 +8,6 @@ pub mod Endings
 pub mod Preparing
 pub mod Putting
 pub mod Notifying
-pub mod Belonging
 pub mod Settling
 pub mod Copied
 pub mod Growing

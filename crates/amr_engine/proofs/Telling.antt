@@ -33,7 +33,6 @@ use Rattle.amr_engine.specs.Said.{Does}
 use Rattle.amr_engine.specs.Neutral.{Accepts}
 use Rattle.amr_engine.specs.Told.{LogIsNotified, AllAreNotified, after_moves}
 use Rattle.amr_engine.proofs.MovesLaws.{do_within-Does}
-use Rattle.amr_engine.proofs.Belonging.{notify_config}
 use Rattle.amr_engine.proofs.Told.{fold_holds, drop_holds, move_holds, between_is_notified}
 use Rattle.amr_engine.proofs.Listed.{none_listed, first_or_rest, listed_filter, listed_map, in_set, in_superset, listed_in_set}
 
@@ -99,6 +98,16 @@ module _ (at : Moment) (group : RouteLabels) (ms : Members) (labels : LabelSet) 
         | false ↦ λ not_due. was_logged s integration (get s.log (key_at s integration)) refl not_due
       ] refl
 
+  -- the configuration stays
+  notify_config : (s : State) (integration : Integration) → (notify_if_due at group ms s integration).config ≡ s.config
+  unfolding notify_if_due
+  notify_config s integration =
+      elim (needs_update (get s.log (key_at s integration)) firing resolved integration.send_resolved at (repeat_interval_of s.config group.route))
+      as (λ b. (if b then record_notification at group (key_at s integration) integration.send_resolved ms s else s).config ≡ s.config) [
+        | true ↦ refl
+        | false ↦ refl
+      ]
+
   -- and after the turns of others
   notify_leaves : (key : LogKey) (s : State) (integration : Integration) → HasLogged key labels s → HasLogged key labels (notify_if_due at group ms s integration)
   unfolding notify_if_due
@@ -116,7 +125,7 @@ module _ (at : Moment) (group : RouteLabels) (ms : Members) (labels : LabelSet) 
       elim (first_or_rest first integration rest listed) [
         | inl same ↦ fold_holds (HasLogged (key_at s integration) labels) (notify_if_due at group ms) (notify_leaves (key_at s integration)) rest (notify_if_due at group ms s first)
             (subst (λ (i : Integration). HasLogged (key_at s i) labels (notify_if_due at group ms s first)) same (notify_logs s first))
-        | inr later ↦ subst (λ (c : Config). HasLogged (log_key_of c group integration) labels (fold (notify_if_due at group ms) (notify_if_due at group ms s first) rest)) (notify_config at group ms s first)
+        | inr later ↦ subst (λ (c : Config). HasLogged (log_key_of c group integration) labels (fold (notify_if_due at group ms) (notify_if_due at group ms s first) rest)) (notify_config s first)
             (each_logs rest (notify_if_due at group ms s first) integration later)
       ]
 

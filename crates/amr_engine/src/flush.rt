@@ -13,7 +13,7 @@ ghost use Rattle.amr_engine.specs.State.State as state;
 ghost use Rattle.amr_engine.specs.State.Kept.{GrownBy, before_open_record};
 ghost use Rattle.amr_engine.specs.Flush.{let_through, firing_of, resolved_of, notified_firing, notified_resolved, notifications_of, notify_if_due, notify_receiver, set_timer, drop_member, drop_resolved, run_pipeline, flush};
 ghost use Rattle.amr_engine.specs.Quiet.{with_timer_reset, IsStill};
-ghost use Rattle.amr_engine.specs.Notifying.{IsGroupOf, entry_of};
+ghost use Rattle.amr_engine.specs.Notifying.{entry_of};
 ghost use Rattle.amr_engine.specs.CachedQuiet.{IsTrueOf};
 ghost use Rattle.amr_engine.specs.Weight.{turns, flush_weight};
 
@@ -22,7 +22,7 @@ use crate::quiet::QuietGroups;
 use crate::quiet_until::{all_notified_until, quiet_until, still_until};
 use crate::stages::let_through;
 use crate::state::{
-    Change, FiringAlert, GroupTimer, LogKey, Member, Membership, Notification, ResolvedAlert, Store,
+    Change, FiringAlert, GroupTimer, LogKey, Member, Notification, ResolvedAlert, Store, member_key,
 };
 use amr_config::RouteLabels;
 use amr_config::stated::Integration;
@@ -226,8 +226,7 @@ fn run_pipeline(
     members: &[Member],
     through: &[Member],
 ) -> Result<(), AllocError>
-    requires through { through.now ≡ let_through store.old.state at group.now.route members.now }
-    requires group { IsGroupOf store.old.state.config group.now members.now }
+    requires { through.now ≡ let_through store.old.state at group.now.route members.now }
     ensures ok { OnOk result (store.new.state
         ≡ run_pipeline at group.now members.now store.old.state) }
     ensures kept { before_open_record store.new ≡ before_open_record store.old }
@@ -412,7 +411,6 @@ fn drop_resolved(
     group: &RouteLabels,
     members: &[Member],
 ) -> Result<(), AllocError>
-    requires { IsGroupOf store.old.state.config group.now members.now }
     ensures ok { OnOk result (store.new.state
         ≡ drop_resolved at group.now members.now store.old.state) }
     ensures kept { before_open_record store.new ≡ before_open_record store.old }
@@ -432,7 +430,6 @@ fn drop_each_resolved(
     group: &RouteLabels,
     members: &[Member],
 ) -> Result<(), AllocError>
-    requires { IsGroupOf store.old.state.config group.now members.now }
     ensures ok { OnOk result (store.new.state
         ≡ fold (drop_member group.now) store.old.state (resolved_of at members.now)) }
     ensures kept { before_open_record store.new ≡ before_open_record store.old }
@@ -440,8 +437,7 @@ fn drop_each_resolved(
 {
     for (labels, alert) in members {
         if alert.get().is_resolved_at(at) {
-            let member = Membership::new(group, labels)?;
-            store.change(Change::OfMember(member, None))?;
+            store.change(Change::OfMember(member_key(group, labels)?, None))?;
         }
     }
     Ok(())

@@ -97,20 +97,13 @@ impl Grouped {
         }
     }
 
-    /// Returns the group of a number, if it is in one.
-    pub fn group_of(&self, number: usize) -> Option<usize>
-        ensures { result ≡ group_at self.now number }
-    {
-        link_at(&self.links.groups, number)
-    }
-
     /// Returns the numbers of a group, in no particular order. Its time doesn't grow with other
     /// groups.
     pub fn numbers_of(&self, group: usize) -> Result<Vec<usize>, AllocError>
         ensures { IfOk result (λ found. AreNumbersOf self.now group found.items) }
     {
         let mut found = Vec::new(self.alloc);
-        let mut at = link_at(&self.links.firsts, group);
+        let mut at = self.links.first(group);
         for _ in 0..self.links.groups.len() {
             let Some(number) = at else {
                 return Ok(found);
@@ -123,6 +116,16 @@ impl Grouped {
 }
 
 impl Links {
+    /// Returns the first number of a group.
+    fn first(&self, group: usize) -> Option<usize>
+        ensures { result ≡ value_at self.now.firsts.items group }
+    {
+        match self.firsts.get(group) {
+            None => None,
+            Some(first) => *first,
+        }
+    }
+
     /// Takes a number out of its group, if it is in one.
     fn leave(&mut self, number: usize)
         requires linked { AreLinked self.old }
@@ -182,16 +185,6 @@ impl Links {
             None => {}
             Some(other) => self.previous[other] = Some(number),
         }
-    }
-}
-
-/// Returns the link at a place, or none beyond the last place.
-fn link_at(links: &Vec<Option<usize>>, place: usize) -> Option<usize>
-    ensures { result ≡ value_at links.now.items place }
-{
-    match links.get(place) {
-        None => None,
-        Some(link) => *link,
     }
 }
 

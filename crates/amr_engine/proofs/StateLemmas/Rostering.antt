@@ -1,7 +1,6 @@
 -- The members of groups by number, how a change of one of them goes on, and the members of a group.
 use Rattle.std.proofs.Common.{◌≡◌, ◌≢◌, ◌≤◌, ◌<◌, ◌+◌, ℕ, zero, suc, Bool, true, false, IsTrue, cond, ◌||◌, ◌&&◌, T, List, [], ◌∷◌, ◌++◌, Option, Some, None, is_some, map, length, get_or, drop, Bor, refl, sym, ap, subst, ◌∙◌, arith}
-use Rattle.std.specs.Prelude.{◌==◌, option_map, if◌then◌else◌, IfSome, IsPermutation, IsSorted, slice_set}
-use Rattle.std.specs.Option.{option_and_then}
+use Rattle.std.specs.Prelude.{◌==◌, option_map, if◌then◌else◌, IsPermutation, IsSorted, slice_set}
 use Rattle.std.specs.List.{All, AllByRecursion, IsDistinct, list_any, filter, filter_map, cons_option}
 use Rattle.std.specs.List.Sorted.{IsStrictlySortedBy}
 use Rattle.std.specs.declared.cmp.Ordering.{Ordering}
@@ -12,13 +11,13 @@ use Rattle.std.specs.FinMap.{find, is_sorted}
 use Rattle.std.specs.FinMap.Entries.{below_all, is_some-find}
 use Rattle.std.proofs.lemmas.Bool.{true≢false}
 use Rattle.std.proofs.lemmas.Bool.Decides.{nat_tests}
-use Rattle.std.proofs.lemmas.List.{append_assoc, at_drop_more, length-set}
+use Rattle.std.proofs.lemmas.List.{append_assoc, at_drop_more, length-set, get_or-set_same, get_or-set_other}
 use Rattle.std.proofs.lemmas.List.Elements.{All-nil, All-cons, All-head, All-tail, All-get_or}
 use Rattle.std.proofs.lemmas.List.Sorted.{All-permutation, IsPermutation-map, list_any-IsPermutation}
 use Rattle.std.proofs.lemmas.Map.Keys.{IsDistinct-IsPermutation}
 use Rattle.std.proofs.lemmas.Option.{same_Some}
 use Rattle.amr_labels.specs.Labels.{LabelSet, label_set_cmp, label_set_cmp_total, label_set_cmp-IsAntisymmetric}
-use Rattle.amr_labels.specs.Map.{Map, get, set, empty, entries, get-set, get-empty, get-entries, entries-sorted}
+use Rattle.amr_labels.specs.Map.{Map, get, set, empty, entries, get-set, get-entries, entries-sorted}
 use Rattle.amr_labels.proofs.Pairs.{own_values}
 use Rattle.amr_labels.proofs.Sorted.{first, second, less}
 use Rattle.amr_config.specs.Stated.Config.{Config}
@@ -36,7 +35,7 @@ use Rattle.amr_config.specs.declared.route_labels.RouteLabels.{RouteLabels}
 use Rattle.amr_config.specs.RouteLabels.{on_route, route_labels_cmp, route_labels_cmp_total, route_labels_cmp-IsAntisymmetric}
 use Rattle.amr_engine.specs.State.State.{group_key, members_among}
 use Rattle.amr_engine.specs.State.Timed.{AreNumbered}
-use Rattle.amr_engine.specs.State.Rostered.{labels_of_members, labels_of_numbered, numbered_labels, with_alert, group_number, IsNumbered, IsGrouped}
+use Rattle.amr_engine.specs.State.Rostered.{labels_of_members, labels_of_numbered, numbered_labels, with_alert, home_at, IsNumbered, IsGrouped}
 use Rattle.amr_engine.proofs.StateLemmas.Scheduling.{not_none, the_value, numbered_same, numbered_set, numbered_placed, none_numbered}
 
 -- ---- truth values
@@ -66,21 +65,12 @@ other_of false b e = absurd (true≢false (sym e))
 tied_key : (k other : RouteLabels) → is_eq (route_labels_cmp other k) ≡ true → other ≡ k
 tied_key k other e = route_labels_cmp-IsAntisymmetric other k (equal_of _ e)
 
--- a number within a bound, if there is one
-pub within_if : (w : Option Alert) (g count : ℕ) → g < count → IfSome (option_map (λ _. g) w) (λ x. x < count)
-within_if None g count h = tt
-within_if (Some x) g count h = h
-
 -- ---- places and numbers
 
 module _ {V : Type 0} (t : Numbered RouteLabels V) where
-  pub place_number : (k : RouteLabels) → IsTrue (has_place route_labels_cmp t k) → (n : ℕ) × (number_of route_labels_cmp t k ≡ Some n)
+  place_number : (k : RouteLabels) → IsTrue (has_place route_labels_cmp t k) → (n : ℕ) × (number_of route_labels_cmp t k ≡ Some n)
   unfolding has_place
   place_number k h = the_value (number_of route_labels_cmp t k) h
-
-  pub number_place : (k : RouteLabels) (n : ℕ) → number_of route_labels_cmp t k ≡ Some n → IsTrue (has_place route_labels_cmp t k)
-  unfolding has_place
-  number_place k n at = ap is_some at
 
   no_place : (k : RouteLabels) → number_of route_labels_cmp t k ≡ None → IsTrue (has_place route_labels_cmp t k) → ⊥
   unfolding has_place
@@ -111,94 +101,113 @@ set_again (x ∷ xs) (suc n) v h e = ap (λ (ys : List (Option ℕ)). x ∷ ys) 
 
 -- ---- the invariant
 
-module _ (config : Config) (a : Numbered RouteLabels Alert) (gs : Numbered RouteLabels GroupTimer) (m : Grouped) (is : IsGrouped config a gs m) where
+module _ (config : Config) (a : Numbered RouteLabels Alert) (gs : Numbered RouteLabels GroupTimer) (homes : List ℕ) (m : Grouped) (is : IsGrouped config a gs homes m) where
   -- the same members, with room for more
-  pub grouped_same : (b : Numbered RouteLabels Alert) (hs : Numbered RouteLabels GroupTimer) (k : Grouped) → b.numbers ≡ a.numbers → map_of route_labels_cmp b ≡ map_of route_labels_cmp a → hs.numbers ≡ gs.numbers → ((n : ℕ) → group_at k n ≡ group_at m n) → length m.groups ≤ length k.groups → m.count ≤ k.count → IsGrouped config b hs k
-  unfolding has_place
+  pub grouped_same : (b : Numbered RouteLabels Alert) (hs : Numbered RouteLabels GroupTimer) (k : Grouped) → b.numbers ≡ a.numbers → map_of route_labels_cmp b ≡ map_of route_labels_cmp a → hs.numbers ≡ gs.numbers → ((n : ℕ) → group_at k n ≡ group_at m n) → length m.groups ≤ length k.groups → m.count ≤ k.count → IsGrouped config b hs homes k
   grouped_same b hs k numbers shows groups same longer more = record {
     numbered = numbered_same route_labels_cmp_total route_labels_cmp-IsAntisymmetric a b numbers shows is.numbered;
-    grouped = λ key n at. same n ∙ is.grouped key n (ap (find route_labels_cmp key) (sym numbers) ∙ at)
-        ∙ (λ i. option_and_then (λ _. find route_labels_cmp (group_key config key) (sym groups i)) (get (sym shows i) key));
-    known = λ key h. subst (λ ns. IsTrue (is_some (find route_labels_cmp (group_key config key) ns))) (sym groups) (is.known key (subst (λ (s : Map route_labels_cmp Alert). IsTrue (is_some (get s key))) shows h));
+    home = λ key n at. ap (find route_labels_cmp (group_key config key)) groups ∙ is.home key n (before key n at);
+    grouped = λ key n at. same n ∙ is.grouped key n (before key n at) ∙ ap (λ (s : Map route_labels_cmp Alert). option_map (λ _. home_at homes n) (get s key)) (sym shows);
+    home_room = λ key n at. is.home_room key n (before key n at);
     named = λ n g at. let by = is.named n g (sym (same n) ∙ at) in (by.0, ap (find route_labels_cmp by.0) numbers ∙ by.1);
-    room = λ key n at. omega (arith, longer, is.room key n (ap (find route_labels_cmp key) (sym numbers) ∙ at));
+    room = λ key n at. omega (arith, longer, is.room key n (before key n at));
     group_room = λ group g at. omega (arith, more, is.group_room group g (ap (find route_labels_cmp group) (sym groups) ∙ at));
   }
+    where
+      before : (key : RouteLabels) (n : ℕ) → number_of route_labels_cmp b key ≡ Some n → number_of route_labels_cmp a key ≡ Some n
+      before key n at = ap (find route_labels_cmp key) (sym numbers) ∙ at
+
+  -- with room for more homes
+  pub grouped_longer : (others : List ℕ) → length homes ≤ length others → ((n : ℕ) → n < length homes → home_at others n ≡ home_at homes n) → IsGrouped config a gs others m
+  grouped_longer others longer kept = record {
+    numbered = is.numbered;
+    home = λ key n at. is.home key n at ∙ ap (λ g. Some g) (own key n at);
+    grouped = λ key n at. is.grouped key n at ∙ ap (λ g. option_map (λ _. g) (get (map_of route_labels_cmp a) key)) (own key n at);
+    home_room = λ key n at. omega (arith, longer, is.home_room key n at);
+    named = is.named;
+    room = is.room;
+    group_room = is.group_room;
+  }
+    where
+      own : (key : RouteLabels) (n : ℕ) → number_of route_labels_cmp a key ≡ Some n → home_at homes n ≡ home_at others n
+      own key n at = sym (kept n (is.home_room key n at))
 
   -- a member has come, has changed, or has left
-  pub grouped_set : (b : Numbered RouteLabels Alert) (k : Grouped) (key : RouteLabels) (n g : ℕ) (w : Option Alert) → number_of route_labels_cmp a key ≡ Some n → number_of route_labels_cmp gs (group_key config key) ≡ Some g
-      → b.numbers ≡ a.numbers → map_of route_labels_cmp b ≡ set (map_of route_labels_cmp a) key w → k.groups ≡ slice_set m.groups n (option_map (λ _. g) w) → k.count ≡ m.count → IsGrouped config b gs k
-  grouped_set b k key n g w at in_g numbers shows groups count = record {
+  pub grouped_set : (b : Numbered RouteLabels Alert) (k : Grouped) (key : RouteLabels) (n : ℕ) (w : Option Alert) → number_of route_labels_cmp a key ≡ Some n → b.numbers ≡ a.numbers → map_of route_labels_cmp b ≡ set (map_of route_labels_cmp a) key w
+      → k.groups ≡ slice_set m.groups n (option_map (λ _. home_at homes n) w) → k.count ≡ m.count → IsGrouped config b gs homes k
+  grouped_set b k key n w at numbers shows groups count = record {
     numbered = numbered_set route_labels_cmp_total route_labels_cmp-IsAntisymmetric a b key n w at numbers shows is.numbered;
+    home = λ other x there. is.home other x (ap (find route_labels_cmp other) (sym numbers) ∙ there);
     grouped = λ other x there. by_key other x (ap (find route_labels_cmp other) (sym numbers) ∙ there);
-    known = λ other h. elim (eq_by_cmp route_labels_cmp other key) as (λ y. eq_by_cmp route_labels_cmp other key ≡ y → IsTrue (is_some (cond y w (get (map_of route_labels_cmp a) other))) → IsTrue (has_place route_labels_cmp gs (group_key config other))) [
-      | true ↦ λ same _. subst (λ (x : RouteLabels). IsTrue (has_place route_labels_cmp gs (group_key config x))) (sym (tied_key key other same)) (number_place gs (group_key config key) g in_g)
-      | false ↦ λ _ there. is.known other there
-    ] refl (subst (λ x. IsTrue (is_some x)) (value other) h);
+    home_room = λ other x there. is.home_room other x (ap (find route_labels_cmp other) (sym numbers) ∙ there);
     named = λ x y there. elim (x == n) as (λ z. (x == n) ≡ z → IsNumber route_labels_cmp b x) [
       | true ↦ λ same. let e : n ≡ x = grind (arith, nat_tests) in (key, ap (find route_labels_cmp key) numbers ∙ at ∙ ap (λ n. Some n) e)
       | false ↦ λ other. let e : x ≢ n = grind (arith, nat_tests) in let by = is.named x y (sym (apart x e) ∙ there) in (by.0, ap (find route_labels_cmp by.0) numbers ∙ by.1)
     ] refl;
-    room = λ other x there. omega (arith, ap length groups, length-set m.groups n (option_map (λ _. g) w), is.room other x (ap (find route_labels_cmp other) (sym numbers) ∙ there));
+    room = λ other x there. omega (arith, ap length groups, length-set m.groups n (option_map (λ _. home_at homes n) w), is.room other x (ap (find route_labels_cmp other) (sym numbers) ∙ there));
     group_room = λ group x there. omega (arith, count, is.group_room group x there);
   }
     where
       value : (other : RouteLabels) → get (map_of route_labels_cmp b) other ≡ cond (eq_by_cmp route_labels_cmp other key) w (get (map_of route_labels_cmp a) other)
       value other = ap (λ (s : Map route_labels_cmp Alert). get s other) shows ∙ get-set route_labels_cmp_total (map_of route_labels_cmp a) key w other
 
-      own : (o : Option Alert) → option_map (λ _. g) o ≡ group_number config gs key o
-      own None = refl
-      own (Some x) = sym in_g
-
       apart : (x : ℕ) → x ≢ n → group_at k x ≡ group_at m x
-      apart x e = ap (λ gs. value_at gs x) groups ∙ value_apart m.groups n x (option_map (λ _. g) w) e
+      apart x e = ap (λ gs. value_at gs x) groups ∙ value_apart m.groups n x (option_map (λ _. home_at homes n) w) e
 
-      there_now : group_at k n ≡ option_map (λ _. g) w
-      there_now = ap (λ gs. value_at gs n) groups ∙ value_set m.groups n (option_map (λ _. g) w) (is.room key n at)
+      there_now : group_at k n ≡ option_map (λ _. home_at homes n) w
+      there_now = ap (λ gs. value_at gs n) groups ∙ value_set m.groups n (option_map (λ _. home_at homes n) w) (is.room key n at)
 
-      by_key : (other : RouteLabels) (x : ℕ) → number_of route_labels_cmp a other ≡ Some x → group_at k x ≡ group_number config gs other (get (map_of route_labels_cmp b) other)
+      by_key : (other : RouteLabels) (x : ℕ) → number_of route_labels_cmp a other ≡ Some x → group_at k x ≡ option_map (λ _. home_at homes x) (get (map_of route_labels_cmp b) other)
       by_key other x there =
-          elim (eq_by_cmp route_labels_cmp other key) as (λ y. eq_by_cmp route_labels_cmp other key ≡ y → group_at k x ≡ group_number config gs other (cond y w (get (map_of route_labels_cmp a) other))) [
+          elim (eq_by_cmp route_labels_cmp other key) as (λ y. eq_by_cmp route_labels_cmp other key ≡ y → group_at k x ≡ option_map (λ _. home_at homes x) (cond y w (get (map_of route_labels_cmp a) other))) [
             | true ↦ λ same.
-                let e : other ≡ key = tied_key key other same in
-                let number : n ≡ x = same_Some n x (sym at ∙ ap (number_of route_labels_cmp a) (sym e) ∙ there) in
-                ap (group_at k) (sym number) ∙ there_now ∙ own w ∙ ap (λ (r : RouteLabels). group_number config gs r w) (sym e)
+                let number : n ≡ x = same_Some n x (sym at ∙ ap (number_of route_labels_cmp a) (sym (tied_key key other same)) ∙ there) in
+                subst (λ y. group_at k y ≡ option_map (λ _. home_at homes y) w) number there_now
             | false ↦ λ other_key. apart x (λ e. true≢false (sym (ap is_eq (tied_itself route_labels_cmp_total key)) ∙ ap (λ (r : RouteLabels). eq_by_cmp route_labels_cmp r key) (is.numbered.apart key other n at (there ∙ ap (λ n. Some n) e)) ∙ other_key))
                 ∙ is.grouped other x there
           ] refl
-          ∙ ap (group_number config gs other) (sym (value other))
-
-  -- a member's group has the number that is kept of the member
-  pub group_of_member : (key : RouteLabels) (n : ℕ) → number_of route_labels_cmp a key ≡ Some n → IsTrue (is_some (get (map_of route_labels_cmp a) key)) → (g : ℕ) × (group_at m n ≡ Some g) × (number_of route_labels_cmp gs (group_key config key) ≡ Some g)
-  group_of_member key n at is_member =
-      let alert = the_value (get (map_of route_labels_cmp a) key) is_member in
-      let group = place_number gs (group_key config key) (is.known key is_member) in
-      (group.0, is.grouped key n at ∙ ap (group_number config gs key) alert.1 ∙ group.1, group.1)
+          ∙ ap (option_map (λ _. home_at homes x)) (sym (value other))
 
   -- a member has changed, or is still none
-  pub grouped_stays : (b : Numbered RouteLabels Alert) (key : RouteLabels) (n g : ℕ) (w : Option Alert) → number_of route_labels_cmp a key ≡ Some n → number_of route_labels_cmp gs (group_key config key) ≡ Some g
-      → b.numbers ≡ a.numbers → map_of route_labels_cmp b ≡ set (map_of route_labels_cmp a) key w → is_some (get (map_of route_labels_cmp a) key) ≡ is_some w → IsGrouped config b gs m
-  grouped_stays b key n g w at in_g numbers shows stays =
-      grouped_set b m key n g w at in_g numbers shows (sym (set_again m.groups n (option_map (λ _. g) w) (is.room key n at) (is.grouped key n at ∙ same (get (map_of route_labels_cmp a) key) w stays))) refl
+  pub grouped_stays : (b : Numbered RouteLabels Alert) (key : RouteLabels) (n : ℕ) (w : Option Alert) → number_of route_labels_cmp a key ≡ Some n → b.numbers ≡ a.numbers → map_of route_labels_cmp b ≡ set (map_of route_labels_cmp a) key w
+      → is_some (get (map_of route_labels_cmp a) key) ≡ is_some w → IsGrouped config b gs homes m
+  grouped_stays b key n w at numbers shows stays =
+      grouped_set b m key n w at numbers shows (sym (set_again m.groups n (option_map (λ _. home_at homes n) w) (is.room key n at) (is.grouped key n at ∙ same (get (map_of route_labels_cmp a) key) w stays))) refl
     where
-      same : (o p : Option Alert) → is_some o ≡ is_some p → group_number config gs key o ≡ option_map (λ _. g) p
+      same : (o p : Option Alert) → is_some o ≡ is_some p → option_map (λ _. home_at homes n) o ≡ option_map (λ _. home_at homes n) p
       same None None e = refl
       same None (Some y) e = absurd (true≢false (sym e))
       same (Some x) None e = absurd (true≢false e)
-      same (Some x) (Some y) e = in_g
+      same (Some x) (Some y) e = refl
 
-  -- a place for a member is made
-  pub grouped_placed : (b : Numbered RouteLabels Alert) (k : RouteLabels) → IsNumbering route_labels_cmp a → number_of route_labels_cmp a k ≡ None → GetsNumber route_labels_cmp a b k (next_number a) → map_of route_labels_cmp b ≡ map_of route_labels_cmp a → next_number a < length m.groups → IsGrouped config b gs m
-  grouped_placed b k numbering new gets shows room = record {
+  -- a place for a member is made, with its home
+  pub grouped_placed : (b : Numbered RouteLabels Alert) (others : List ℕ) (k : RouteLabels) (g : ℕ) → IsNumbering route_labels_cmp a → number_of route_labels_cmp a k ≡ None → GetsNumber route_labels_cmp a b k (next_number a) → map_of route_labels_cmp b ≡ map_of route_labels_cmp a → next_number a < length m.groups
+      → number_of route_labels_cmp gs (group_key config k) ≡ Some g → others ≡ slice_set homes (next_number a) g → next_number a < length homes → IsGrouped config b gs others m
+  grouped_placed b others k g numbering new gets shows room in_g homes_are home_room = record {
     numbered = numbered_placed route_labels_cmp_total route_labels_cmp-IsAntisymmetric a b k (next_number a) gets numbering.within shows is.numbered;
-    grouped = λ key n at. by_number a b k (next_number a) gets (λ key n. group_at m n ≡ group_number config gs key (get (map_of route_labels_cmp a) key))
-        (nobody ∙ ap (group_number config gs k) (sym no_value)) is.grouped key n at ∙ ap (λ (s : Map route_labels_cmp Alert). group_number config gs key (get s key)) (sym shows);
-    known = λ key h. is.known key (subst (λ (s : Map route_labels_cmp Alert). IsTrue (is_some (get s key))) shows h);
+    home = by_number a b k (next_number a) gets (λ key n. number_of route_labels_cmp gs (group_key config key) ≡ Some (home_at others n))
+        (in_g ∙ ap (λ g. Some g) (sym own)) (λ key n at. is.home key n at ∙ ap (λ g. Some g) (sym (apart key n at)));
+    grouped = λ key n at. by_number a b k (next_number a) gets (λ key n. group_at m n ≡ option_map (λ _. home_at others n) (get (map_of route_labels_cmp a) key))
+        (nobody ∙ ap (option_map (λ _. home_at others (next_number a))) (sym no_value))
+        (λ key n at. is.grouped key n at ∙ ap (λ g. option_map (λ _. g) (get (map_of route_labels_cmp a) key)) (sym (apart key n at))) key n at
+        ∙ ap (λ (s : Map route_labels_cmp Alert). option_map (λ _. home_at others n) (get s key)) (sym shows);
+    home_room = by_number a b k (next_number a) gets (λ key n. n < length others) (omega (arith, home_room, length_now)) (λ key n at. omega (arith, is.home_room key n at, length_now));
     named = λ n g at. let by = is.named n g at in (by.0, kept_number a b k (next_number a) new gets by.0 n by.1);
     room = by_number a b k (next_number a) gets (λ key n. n < length m.groups) room is.room;
     group_room = is.group_room;
   }
     where
+      length_now : length others ≡ length homes
+      length_now = ap length homes_are ∙ length-set homes (next_number a) g
+
+      own : home_at others (next_number a) ≡ g
+      own = ap (λ l. home_at l (next_number a)) homes_are ∙ get_or-set_same homes (next_number a) g 0 home_room
+
+      apart : (key : RouteLabels) (n : ℕ) → number_of route_labels_cmp a key ≡ Some n → home_at others n ≡ home_at homes n
+      apart key n at =
+          let less = numbering.within key n at in
+          ap (λ l. home_at l n) homes_are ∙ get_or-set_other homes (next_number a) n g 0 (λ e. omega (arith, less, e))
+
       none_of : {A : Type 0} (x : Option A) → (IsTrue (is_some x) → ⊥) → x ≡ None
       none_of None h = refl
       none_of (Some x) h = absurd (h refl)
@@ -214,25 +223,23 @@ module _ (config : Config) (a : Numbered RouteLabels Alert) (gs : Numbered Route
           omega (arith, less))
 
   -- a group gets a number
-  pub group_placed : (hs : Numbered RouteLabels GroupTimer) (k : RouteLabels) → number_of route_labels_cmp gs k ≡ None → GetsNumber route_labels_cmp gs hs k (next_number gs) → next_number gs < m.count → IsGrouped config a hs m
+  pub group_placed : (hs : Numbered RouteLabels GroupTimer) (k : RouteLabels) → number_of route_labels_cmp gs k ≡ None → GetsNumber route_labels_cmp gs hs k (next_number gs) → next_number gs < m.count → IsGrouped config a hs homes m
   group_placed hs k new gets room = record {
     numbered = is.numbered;
-    grouped = λ key n at. is.grouped key n at ∙ same_group key (get (map_of route_labels_cmp a) key) (is.known key);
-    known = λ key h. let by = place_number gs (group_key config key) (is.known key h) in number_place hs (group_key config key) by.0 (kept_number gs hs k (next_number gs) new gets (group_key config key) by.0 by.1);
+    home = λ key n at. kept_number gs hs k (next_number gs) new gets (group_key config key) (home_at homes n) (is.home key n at);
+    grouped = is.grouped;
+    home_room = is.home_room;
     named = is.named;
     room = is.room;
     group_room = by_number gs hs k (next_number gs) gets (λ group g. g < m.count) room is.group_room;
   }
-    where
-      same_group : (key : RouteLabels) (o : Option Alert) → (IsTrue (is_some o) → IsTrue (has_place route_labels_cmp gs (group_key config key))) → group_number config gs key o ≡ group_number config hs key o
-      same_group key None h = refl
-      same_group key (Some x) h = let by = place_number gs (group_key config key) (h refl) in by.1 ∙ sym (kept_number gs hs k (next_number gs) new gets (group_key config key) by.0 by.1)
 
-pub grouped_first : (config : Config) (a : Numbered RouteLabels Alert) (gs : Numbered RouteLabels GroupTimer) (m : Grouped) → a.numbers ≡ [] → map_of route_labels_cmp a ≡ empty → gs.numbers ≡ [] → m.groups ≡ [] → IsGrouped config a gs m
-grouped_first config a gs m none no_members no_groups nothing = record {
+pub grouped_first : (config : Config) (a : Numbered RouteLabels Alert) (gs : Numbered RouteLabels GroupTimer) (homes : List ℕ) (m : Grouped) → a.numbers ≡ [] → map_of route_labels_cmp a ≡ empty → gs.numbers ≡ [] → m.groups ≡ [] → IsGrouped config a gs homes m
+grouped_first config a gs homes m none no_members no_groups nothing = record {
   numbered = none_numbered route_labels_cmp_total route_labels_cmp-IsAntisymmetric a none no_members;
+  home = λ key n at. not_none n _ (sym at ∙ ap (find route_labels_cmp key) none);
   grouped = λ key n at. not_none n _ (sym at ∙ ap (find route_labels_cmp key) none);
-  known = λ key h. absurd (true≢false (sym h ∙ ap (λ (s : Map route_labels_cmp Alert). is_some (get s key)) no_members ∙ ap is_some (get-empty route_labels_cmp key)));
+  home_room = λ key n at. not_none n _ (sym at ∙ ap (find route_labels_cmp key) none);
   named = λ n g at. not_none g _ (sym at ∙ ap (λ gs. value_at gs n) nothing);
   room = λ key n at. not_none n _ (sym at ∙ ap (find route_labels_cmp key) none);
   group_room = λ group g at. not_none g _ (sym at ∙ ap (find route_labels_cmp group) no_groups);
@@ -240,21 +247,21 @@ grouped_first config a gs m none no_members no_groups nothing = record {
 
 -- ---- the number of a member of the group
 
-module _ (config : Config) (a : Numbered RouteLabels Alert) (gs : Numbered RouteLabels GroupTimer) (m : Grouped) (is : IsGrouped config a gs m) (group : RouteLabels) (numbered : AreNumbered route_labels_cmp gs) (g : ℕ) (at : number_of route_labels_cmp gs group ≡ Some g) where
-  grouped_at : (key : RouteLabels) (o : Option Alert) → group_number config gs key o ≡ Some g → IsTrue (is_some o) × (group_key config key ≡ group)
-  grouped_at key None e = cc
-  grouped_at key (Some x) e = (refl, numbered.apart (group_key config key) group g e at)
+module _ (config : Config) (a : Numbered RouteLabels Alert) (gs : Numbered RouteLabels GroupTimer) (homes : List ℕ) (m : Grouped) (is : IsGrouped config a gs homes m) (group : RouteLabels) (numbered : AreNumbered route_labels_cmp gs) (g : ℕ) (at : number_of route_labels_cmp gs group ≡ Some g) where
+  grouped_at : (key : RouteLabels) (n : ℕ) (o : Option Alert) → number_of route_labels_cmp gs (group_key config key) ≡ Some (home_at homes n) → option_map (λ _. home_at homes n) o ≡ Some g → IsTrue (is_some o) × (group_key config key ≡ group)
+  grouped_at key n None own e = cc
+  grouped_at key n (Some x) own e = (refl, numbered.apart (group_key config key) group g (own ∙ e) at)
 
   -- who has a number in the group is a member of it
   pub member_of : (n : ℕ) → group_at m n ≡ Some g → (key : RouteLabels) × (number_of route_labels_cmp a key ≡ Some n) × (IsTrue (is_some (get (map_of route_labels_cmp a) key)) × (group_key config key ≡ group))
-  member_of n there = let by = is.named n g there in (by.0, by.1, grouped_at by.0 (get (map_of route_labels_cmp a) by.0) (sym (is.grouped by.0 n by.1) ∙ there))
+  member_of n there = let by = is.named n g there in (by.0, by.1, grouped_at by.0 n (get (map_of route_labels_cmp a) by.0) (is.home by.0 n by.1) (sym (is.grouped by.0 n by.1) ∙ there))
 
   -- a member of the group has a number in it
   pub number_in : (key : RouteLabels) → IsTrue (is_some (get (map_of route_labels_cmp a) key)) → group_key config key ≡ group → (n : ℕ) × (number_of route_labels_cmp a key ≡ Some n) × (group_at m n ≡ Some g)
   number_in key h e =
       let by = place_number a key (is.numbered.placed key h) in
       let value = the_value (get (map_of route_labels_cmp a) key) h in
-      (by.0, by.1, is.grouped key by.0 by.1 ∙ ap (group_number config gs key) value.1 ∙ ap (number_of route_labels_cmp gs) e ∙ at)
+      (by.0, by.1, is.grouped key by.0 by.1 ∙ ap (option_map (λ _. home_at homes by.0)) value.1 ∙ sym (is.home key by.0 by.1) ∙ ap (number_of route_labels_cmp gs) e ∙ at)
 
   -- the key that a number in the group names
   pub named_by : IsNumbering route_labels_cmp a → (n : ℕ) → group_at m n ≡ Some g → (key : RouteLabels) → Some key ≡ key_at a n → IsNumbered a group.route (key.labels, n)
@@ -361,14 +368,16 @@ module _ (config : Config) (group : RouteLabels) where
 abbrev pub numbers_of_listed : List (Bor LabelSet × ℕ) → List ℕ
 numbers_of_listed members = map (λ member. member.1) members
 
-module _ (config : Config) (a : Numbered RouteLabels Alert) (gs : Numbered RouteLabels GroupTimer) (m : Grouped) (is : IsGrouped config a gs m) (group : RouteLabels) where
+module _ (config : Config) (a : Numbered RouteLabels Alert) (gs : Numbered RouteLabels GroupTimer) (homes : List ℕ) (m : Grouped) (is : IsGrouped config a gs homes m) (group : RouteLabels) where
   -- no member is in a group without a number
   pub none_listed : number_of route_labels_cmp gs group ≡ None → [] ≡ labels_of_members (members_among config (map_of route_labels_cmp a) group)
   unfolding IsStrictlySortedBy
   none_listed none = listed config group (map_of route_labels_cmp a) [] tt (λ l. nobody (on_route group.route l) _ _ refl refl)
     where
       nobody : (key : RouteLabels) (x y : Bool) → is_in config group key ≡ x → is_some (get (map_of route_labels_cmp a) key) ≡ y → false ≡ (x && y)
-      nobody key true true e h = absurd (no_place gs group none (subst (λ r. IsTrue (has_place route_labels_cmp gs r)) (tied_key group (group_key config key) e) (is.known key h)))
+      nobody key true true e h =
+          let by = place_number a key (is.numbered.placed key h) in
+          not_none (home_at homes by.0) _ (sym (is.home key by.0 by.1) ∙ ap (number_of route_labels_cmp gs) (tied_key group (group_key config key) e) ∙ none)
       nobody key true false e h = refl
       nobody key false y e h = refl
 
@@ -460,12 +469,12 @@ module _ (config : Config) (a : Numbered RouteLabels Alert) (gs : Numbered Route
           (λ h.
           let by = listed_number members all_listed l h in
           let there : group_at m by.0 ≡ Some g = those.members by.0 (list_any-IsPermutation (λ x. by.0 == x) numbers (numbers_of_listed members) same_numbers ∙ by.1.0) in
-          let member = member_of config a gs m is group numbered g at by.0 there in
+          let member = member_of config a gs homes m is group numbered g at by.0 there in
           let same : member.0 ≡ key = is.numbered.apart member.0 key by.0 member.1 by.1.1 in
           both _ _ (subst (λ r. is_in config group r ≡ true) same (ap (λ r. eq_by_cmp route_labels_cmp r group) member.2.1 ∙ ap is_eq (tied_itself route_labels_cmp_total group)))
           (subst (λ r. is_some (get (map_of route_labels_cmp a) r) ≡ true) same member.2.0))
           (λ h.
-          let by = number_in config a gs m is group numbered g at key (other_of _ _ h) (tied_key group (group_key config key) (one_of _ _ h)) in
+          let by = number_in config a gs homes m is group numbered g at key (other_of _ _ h) (tied_key group (group_key config key) (one_of _ _ h)) in
           listed_labels members all_listed l by.0 by.1 (sym (list_any-IsPermutation (λ x. by.0 == x) numbers (numbers_of_listed members) same_numbers) ∙ those.all by.0 by.2))
 
       pub labels_found : labels_of_numbered members ≡ labels_of_members (members_among config (map_of route_labels_cmp a) group)

@@ -14,7 +14,6 @@ use Rattle.amr_tables.specs.Records.{Records}
 use Rattle.amr_labels.specs.Labels.{LabelSet, label_set_cmp, label_set_cmp-IsAntisymmetric}
 use Rattle.amr_time.specs.Time.{latest_read}
 use Rattle.amr_config.specs.declared.route_labels.RouteLabels.{RouteLabels}
-use Rattle.amr_engine.specs.declared.state.membership.Membership.{Membership}
 use Rattle.amr_engine.specs.declared.state.notification.LogKey.{LogKey}
 use Rattle.amr_engine.specs.declared.state.notification.GroupTimer.{GroupTimer}
 use Rattle.amr_engine.specs.declared.state.notification.Notification.{Notification}
@@ -26,8 +25,8 @@ use Rattle.amr_engine.specs.declared.state.change.Change.TheVariants.{OfMoment, 
 use Rattle.amr_engine.specs.declared.state.tables.Tables.{Tables}
 use Rattle.amr_engine.specs.State.Records.{after_change, put_back, is_covered_by, has_entry, IsNoNotification, NotesEntered}
 use Rattle.amr_config.specs.RouteLabels.{route_labels_cmp, route_labels_cmp-IsAntisymmetric}
-use Rattle.amr_engine.specs.State.State.{State, member_on_route, group_key, log_key_cmp, log_key_cmp-IsAntisymmetric}
-use Rattle.amr_engine.specs.State.Fitting.{FitsOne, IsAllowed}
+use Rattle.amr_engine.specs.State.State.{State, log_key_cmp, log_key_cmp-IsAntisymmetric}
+use Rattle.amr_engine.specs.State.Fitting.{IsAllowed}
 use Rattle.amr_engine.specs.State.Kept.{before_open_record}
 use Rattle.amr_engine.specs.State.Rostered.{Rostered}
 use Rattle.amr_engine.specs.declared.state.store.Store.TheInside.{Inside}
@@ -46,14 +45,13 @@ sound-more a b more (OfMoment moment) h = h
 sound-more a b more (OfRoster roster) h = h
 sound-more a b more (OfAlert labels alert) h = more.alerts labels h
 sound-more a b more (OfSilence id silence) h = more.silences id h
-sound-more a b more (OfMember member alert) h =
-    (more.placements (member_on_route member) h.0, more.timers member.group h.1, h.2 ∙ ap (λ config. group_key config (member_on_route member)) (sym more.config))
+sound-more a b more (OfMember member alert) h = more.placements member h
 sound-more a b more (OfTimer group timer) h = more.timers group h
 sound-more a b more (OfLog key entry) h = more.log key h
 sound-more a b more (OfNotes count) h = h
 
 with_roster-more : (a b : Tables) → MorePlaces a b → (e : Change) → MorePlaces (with_roster a e) (with_roster b e)
-with_roster-more a b more (OfRoster roster) = record { config = refl; alerts = more.alerts; silences = more.silences; placements = λ k h. h; timers = λ k h. h; log = more.log }
+with_roster-more a b more (OfRoster roster) = record { alerts = more.alerts; silences = more.silences; placements = λ k h. h; timers = λ k h. h; log = more.log }
 with_roster-more a b more e = more
 
 roster_back-more : (es : List Change) (a b : Tables) → MorePlaces a b → MorePlaces (roster_back es a) (roster_back es b)
@@ -108,7 +106,7 @@ joined-push rs r e = append_assoc (joined rs) r (e ∷ [])
 
 -- what holds at each kind of place holds at all
 pub by_place : (P : Change → Type 0) → ((m : ℕ) → P (OfMoment m)) → ((r : Rostered) → P (OfRoster r)) → ((k : LabelSet) (v : Option Alert) → P (OfAlert k v))
-    → ((k : ℕ) (v : Option Silence) → P (OfSilence k v)) → ((k : Membership) (v : Option Alert) → P (OfMember k v)) → ((k : RouteLabels) (v : Option GroupTimer) → P (OfTimer k v))
+    → ((k : ℕ) (v : Option Silence) → P (OfSilence k v)) → ((k : RouteLabels) (v : Option Alert) → P (OfMember k v)) → ((k : RouteLabels) (v : Option GroupTimer) → P (OfTimer k v))
     → ((k : LogKey) (v : Option LogEntry) → P (OfLog k v)) → ((n : ℕ) → P (OfNotes n)) → (place : Change) → P place
 by_place P m c a s p k l n (OfMoment x) = m x
 by_place P m c a s p k l n (OfRoster x) = c x
@@ -278,7 +276,6 @@ same_state a b same = λ i. record {
 
 pub more_still : (a b c : Tables) → MorePlaces a b → MorePlaces b c → MorePlaces a c
 more_still a b c one two = record {
-  config = two.config ∙ one.config;
   alerts = λ k h. two.alerts k (one.alerts k h);
   silences = λ k h. two.silences k (one.silences k h);
   placements = λ k h. two.placements k (one.placements k h);
@@ -288,25 +285,15 @@ more_still a b c one two = record {
 
 -- ---- one change
 
-pub fits_one : (s : State) (e : Change) → IsAllowed s e → FitsOne s e
-fits_one s (OfMoment moment) h = tt
-fits_one s (OfRoster roster) h = tt
-fits_one s (OfAlert labels alert) h = tt
-fits_one s (OfSilence id silence) h = tt
-fits_one s (OfMember member alert) h = h
-fits_one s (OfTimer group timer) h = tt
-fits_one s (OfLog key entry) h = tt
-fits_one s (OfNotes count) h = tt
-
-pub no_notes : (s : State) (e : Change) → IsAllowed s e → IsNoNotification e
-no_notes s (OfMoment moment) h = tt
-no_notes s (OfRoster roster) h = tt
-no_notes s (OfAlert labels alert) h = tt
-no_notes s (OfSilence id silence) h = tt
-no_notes s (OfMember member alert) h = tt
-no_notes s (OfTimer group timer) h = tt
-no_notes s (OfLog key entry) h = tt
-no_notes s (OfNotes count) h = h
+pub no_notes : (e : Change) → IsAllowed e → IsNoNotification e
+no_notes (OfMoment moment) h = tt
+no_notes (OfRoster roster) h = tt
+no_notes (OfAlert labels alert) h = tt
+no_notes (OfSilence id silence) h = tt
+no_notes (OfMember member alert) h = tt
+no_notes (OfTimer group timer) h = tt
+no_notes (OfLog key entry) h = tt
+no_notes (OfNotes count) h = h
 
 -- a change is of the place that leads back
 marked_back : (t u : Tables) (e : Change) → is_marked_at t (change_back u e) ≡ is_marked_at t e
@@ -321,7 +308,7 @@ marked_back t u (OfNotes count) = refl
 
 -- the roster that is displaced leads back to the places of before
 more_back : (a b : Tables) (e : Change) → MorePlaces (with_roster a e) b → MorePlaces a (with_roster b (change_back a e))
-more_back a b (OfRoster roster) more = record { config = refl; alerts = more.alerts; silences = more.silences; placements = λ k h. h; timers = λ k h. h; log = more.log }
+more_back a b (OfRoster roster) more = record { alerts = more.alerts; silences = more.silences; placements = λ k h. h; timers = λ k h. h; log = more.log }
 more_back a b e more = more
 
 -- the roster has no mark
@@ -334,27 +321,22 @@ unfolding has_place
 placed R t k n at = ap is_some at
 
 -- that place is there
-sound_back : (t : Tables) (e : Change) (n : ℕ) → t.moment ≤ latest_read → IsPlaceOf t e n → FitsOne (shown_by t) e → IsSound t (change_back t e)
-sound_back t (OfMoment moment) n late h fits = late
-sound_back t (OfRoster roster) n late h fits = tt
-sound_back t (OfAlert labels alert) n late h fits = placed label_set_cmp t.alerts labels n h
-sound_back t (OfSilence id silence) n late h fits = placed nat_cmp t.silences id n h
-sound_back t (OfMember member alert) n late h fits = (placed route_labels_cmp t.roster.placements (member_on_route member) n h.0, h.1, fits)
-sound_back t (OfTimer group timer) n late h fits = placed route_labels_cmp t.roster.timers group n h
-sound_back t (OfLog key entry) n late h fits = placed log_key_cmp t.log key n h
-sound_back t (OfNotes count) n late h fits = tt
+sound_back : (t : Tables) (e : Change) (n : ℕ) → t.moment ≤ latest_read → IsPlaceOf t e n → IsSound t (change_back t e)
+sound_back t (OfMoment moment) n late h = late
+sound_back t (OfRoster roster) n late h = tt
+sound_back t (OfAlert labels alert) n late h = placed label_set_cmp t.alerts labels n h
+sound_back t (OfSilence id silence) n late h = placed nat_cmp t.silences id n h
+sound_back t (OfMember member alert) n late h = placed route_labels_cmp t.roster.placements member n h
+sound_back t (OfTimer group timer) n late h = placed route_labels_cmp t.roster.timers group n h
+sound_back t (OfLog key entry) n late h = placed log_key_cmp t.log key n h
+sound_back t (OfNotes count) n late h = tt
 
 -- whether a roster can be put back doesn't depend on the present one
 sound_anyway : (t : Tables) (e : Change) → IsSound (with_roster t e) e → IsSound t e
 sound_anyway t (OfRoster roster) h = h
 sound_anyway t e h = h
 
--- an entry that can be put back is a change that the tables take
-pub fits_sound : (t : Tables) (e : Change) → IsSound t e → FitsOne (shown_by t) e
-fits_sound t (OfMember member alert) h = h.2
-fits_sound t e h = tt
-
-late_changed : (s : State) (e : Change) → IsAllowed s e → s.moment ≤ latest_read → (after_change s e).moment ≤ latest_read
+late_changed : (s : State) (e : Change) → IsAllowed e → s.moment ≤ latest_read → (after_change s e).moment ≤ latest_read
 late_changed s (OfMoment moment) h late = h
 late_changed s (OfRoster roster) h late = late
 late_changed s (OfAlert labels alert) h late = late
@@ -374,7 +356,7 @@ late_back t s (OfTimer group timer) h late = late
 late_back t s (OfLog key entry) h late = late
 late_back t s (OfNotes count) h late = late
 
-notes_changed : (s : State) (e : Change) → IsAllowed s e → (after_change s e).notes ≡ s.notes
+notes_changed : (s : State) (e : Change) → IsAllowed e → (after_change s e).notes ≡ s.notes
 notes_changed s (OfMoment moment) h = refl
 notes_changed s (OfRoster roster) h = refl
 notes_changed s (OfAlert labels alert) h = refl
@@ -384,16 +366,16 @@ notes_changed s (OfTimer group timer) h = refl
 notes_changed s (OfLog key entry) h = refl
 notes_changed s (OfNotes count) h = absurd h
 
-notes_apart : (t : Tables) (s : State) (e : Change) → IsAllowed s e → is_covered_by (OfNotes 0) (change_back t e) ≡ false
-notes_apart t s (OfNotes count) h = absurd h
-notes_apart t s e h = refl
+notes_apart : (t : Tables) (e : Change) → IsAllowed e → is_covered_by (OfNotes 0) (change_back t e) ≡ false
+notes_apart t (OfNotes count) h = absurd h
+notes_apart t e h = refl
 
 -- two changes of one place have one mark
 marked_alike : (t : Tables) (p e : Change) → is_covered_by p e ≡ true → IsTrue (is_marked_at t e) → IsTrue (is_marked_at t p)
 marked_alike t (OfMoment a) (OfMoment b) is h = h
 marked_alike t (OfAlert a v) (OfAlert b w) is h = subst (λ k. IsTrue (is_entered label_set_cmp t.alerts k)) (sym (tells_apart label_set_cmp-IsAntisymmetric a b is)) h
 marked_alike t (OfSilence a v) (OfSilence b w) is h = subst (λ k. IsTrue (is_entered nat_cmp t.silences k)) (sym (tells_apart nat_cmp-IsAntisymmetric a b is)) h
-marked_alike t (OfMember a v) (OfMember b w) is h = subst (λ k. IsTrue (t.is_roster_entered || is_entered route_labels_cmp t.roster.placements k)) (sym (tells_apart route_labels_cmp-IsAntisymmetric (member_on_route a) (member_on_route b) is)) h
+marked_alike t (OfMember a v) (OfMember b w) is h = subst (λ k. IsTrue (t.is_roster_entered || is_entered route_labels_cmp t.roster.placements k)) (sym (tells_apart route_labels_cmp-IsAntisymmetric a b is)) h
 marked_alike t (OfTimer a v) (OfTimer b w) is h = subst (λ k. IsTrue (t.is_roster_entered || is_entered route_labels_cmp t.roster.timers k)) (sym (tells_apart route_labels_cmp-IsAntisymmetric a b is)) h
 marked_alike t (OfLog a v) (OfLog b w) is h = subst (λ k. IsTrue (is_entered log_key_cmp t.log k)) (sym (tells_apart log_key_cmp-IsAntisymmetric a b is)) h
 marked_alike t (OfNotes a) (OfNotes b) is h = h
@@ -406,14 +388,34 @@ marked_alike t p e is h = absurd (unlike is)
 pub kept_roomier : (a : Inside) (t : Tables) (j : Records Change) → IsKept a → IsRoomier a.tables a.journal t j → IsKept (record a { tables = t; journal = j })
 kept_roomier a t j kept roomier = kept_grown a (record a { tables = t; journal = j }) kept roomier.places roomier.values.moment roomier.closed roomier.current roomier.marks roomier.values.notes
 
+-- a place is made first
+pub placed_first : (a b t : Tables) (i j : Records Change) → SameValues a b → MorePlaces a b → ((place : Change) → NoNewMark a b place) → IsRoomier b i t j → IsRoomier a i t j
+placed_first a b t i j same more marks roomier = record {
+  values = record {
+    moment = roomier.values.moment ∙ same.moment;
+    config = roomier.values.config ∙ same.config;
+    alerts = roomier.values.alerts ∙ same.alerts;
+    silences = roomier.values.silences ∙ same.silences;
+    placements = roomier.values.placements ∙ same.placements;
+    timers = roomier.values.timers ∙ same.timers;
+    log = roomier.values.log ∙ same.log;
+    notes = roomier.values.notes ∙ same.notes;
+  };
+  places = more_still a b t more roomier.places;
+  marks = λ place h. marks place (roomier.marks place h);
+  closed = roomier.closed;
+  current = roomier.current;
+  room = roomier.room;
+}
+
 -- room is made in the journal and for notifications
 pub kept_reserved : (a b : Inside) → IsKept a → b.tables.notes.items ≡ a.tables.notes.items → b.journal.closed ≡ a.journal.closed → b.journal.current ≡ a.journal.current
     → IsKept (record a { tables = record a.tables { notes = b.tables.notes }; journal = b.journal })
 kept_reserved a b kept notes closed current =
     kept_grown a (record a { tables = record a.tables { notes = b.tables.notes }; journal = b.journal }) kept
-    (record { config = refl; alerts = λ k h. h; silences = λ k h. h; placements = λ k h. h; timers = λ k h. h; log = λ k h. h }) refl closed current (λ place h. h) notes
+    (record { alerts = λ k h. h; silences = λ k h. h; placements = λ k h. h; timers = λ k h. h; log = λ k h. h }) refl closed current (λ place h. h) notes
 
-pub kept_changed : (a b : Inside) (e : Change) (n : ℕ) → IsKept a → IsAllowed (state_of a) e → IsPlaceOf a.tables e n → MorePlaces (with_roster a.tables e) b.tables → state_of b ≡ after_change (state_of a) e → IsEntered a.tables a.journal e b.tables b.journal → IsKept b
+pub kept_changed : (a b : Inside) (e : Change) (n : ℕ) → IsKept a → IsAllowed e → IsPlaceOf a.tables e n → MorePlaces (with_roster a.tables e) b.tables → state_of b ≡ after_change (state_of a) e → IsEntered a.tables a.journal e b.tables b.journal → IsKept b
 kept_changed a b e n kept allowed at more state entered =
     let s : State = state_of a in
     let back : Change = change_back a.tables e in
@@ -427,20 +429,19 @@ kept_changed a b e n kept allowed at more state entered =
       | false ↦ λ _ current.
           let more_there : MorePlaces a.tables (with_roster b.tables back) = more_back a.tables b.tables e more in
           kept_pushed a b back kept more_there late entered.closed current
-          (sound_anyway b.tables back (sound-more a.tables (with_roster b.tables back) more_there back (sound_back a.tables e n kept.moment at (fits_one s e allowed)))) entered.marks
+          (sound_anyway b.tables back (sound-more a.tables (with_roster b.tables back) more_there back (sound_back a.tables e n kept.moment at))) entered.marks
           (λ h. subst (λ items. NotesEntered (a.journal.current ++ back ∷ []) (length items)) (sym notes)
-          (notes_entered-push a.journal.current back (length a.tables.notes.items) (kept.notes (subst (λ x. IsTrue (x || a.tables.are_notes_entered)) (notes_apart a.tables s e allowed) (entered.marks (OfNotes 0) h)))))
+          (notes_entered-push a.journal.current back (length a.tables.notes.items) (kept.notes (subst (λ x. IsTrue (x || a.tables.are_notes_entered)) (notes_apart a.tables e allowed) (entered.marks (OfNotes 0) h)))))
     ] refl entered.current
 
 -- ---- what the open record gives by being put back, after one change
 
-pub undone_changed : (a b : Inside) (e : Change) → IsKept a → IsAllowed (state_of a) e → state_of b ≡ after_change (state_of a) e → IsEntered a.tables a.journal e b.tables b.journal → before_open_record (kept_of b) ≡ before_open_record (kept_of a)
+pub undone_changed : (a b : Inside) (e : Change) → IsKept a → IsAllowed e → state_of b ≡ after_change (state_of a) e → IsEntered a.tables a.journal e b.tables b.journal → before_open_record (kept_of b) ≡ before_open_record (kept_of a)
 undone_changed a b e kept allowed state entered =
-    let s : State = state_of a in
     let back : Change = change_back a.tables e in
     elim (is_marked_at a.tables e) as (λ m. is_marked_at a.tables e ≡ m → b.journal.current ≡ cond m a.journal.current (a.journal.current ++ back ∷ []) → before_open_record (kept_of b) ≡ before_open_record (kept_of a)) [
-      | true ↦ λ marked current. undone_covered a b e kept (no_notes s e allowed) marked state current entered.closed entered.room
-      | false ↦ λ _ current. undone_pushed a b e back (no_notes s e allowed) state refl current entered.closed entered.room
+      | true ↦ λ marked current. undone_covered a b e kept (no_notes e allowed) marked state current entered.closed entered.room
+      | false ↦ λ _ current. undone_pushed a b e back (no_notes e allowed) state refl current entered.closed entered.room
     ] refl entered.current
 
 -- places are made, and room
@@ -453,17 +454,14 @@ undone_reserved a j closed current room = same_undone (kept_of (record a { journ
 
 -- ---- a change whose place and room were made first
 
-module _ (a : Inside) (t u : Tables) (j k : Records Change) (e : Change) (kept : IsKept a) (roomier : IsRoomier a.tables a.journal t j) (allowed : IsAllowed (state_of a) e)
+module _ (a : Inside) (t u : Tables) (j k : Records Change) (e : Change) (kept : IsKept a) (roomier : IsRoomier a.tables a.journal t j) (allowed : IsAllowed e)
     (state : shown_by u ≡ after_change (shown_by t) e) (entered : IsEntered t j e u k) where
-  allowed_there : IsAllowed (shown_by t) e
-  allowed_there = subst (λ s. IsAllowed s e) (sym (same_state a.tables t roomier.values)) allowed
-
   pub kept_put : (n : ℕ) → IsPlaceOf t e n → MorePlaces (with_roster t e) u → IsKept (record a { tables = u; journal = k })
-  kept_put n at more = kept_changed (record a { tables = t; journal = j }) (record a { tables = u; journal = k }) e n (kept_roomier a t j kept roomier) allowed_there at more state entered
+  kept_put n at more = kept_changed (record a { tables = t; journal = j }) (record a { tables = u; journal = k }) e n (kept_roomier a t j kept roomier) allowed at more state entered
 
   pub undone_put : before_open_record (kept_of (record a { tables = u; journal = k })) ≡ before_open_record (kept_of a)
   undone_put =
-      undone_changed (record a { tables = t; journal = j }) (record a { tables = u; journal = k }) e (kept_roomier a t j kept roomier) allowed_there state entered
+      undone_changed (record a { tables = t; journal = j }) (record a { tables = u; journal = k }) e (kept_roomier a t j kept roomier) allowed state entered
       ∙ undone_roomier a t j roomier
 
 -- ---- the last entry

@@ -21,7 +21,7 @@ use Rattle.amr_engine.specs.declared.state.notification.Notification.{Notificati
 use Rattle.amr_engine.specs.declared.state.change.Change.{Change}
 use Rattle.amr_engine.specs.declared.state.change.Change.TheVariants.{OfMoment, OfRoster, OfAlert, OfSilence, OfMember, OfTimer, OfLog, OfNotes}
 use Rattle.amr_config.specs.RouteLabels.{route_labels_cmp, route_labels_cmp_total, route_labels_cmp-IsAntisymmetric}
-use Rattle.amr_engine.specs.State.State.{State, member_on_route, log_key_cmp, log_key_cmp_total, log_key_cmp-IsAntisymmetric}
+use Rattle.amr_engine.specs.State.State.{State, log_key_cmp, log_key_cmp_total, log_key_cmp-IsAntisymmetric}
 use Rattle.amr_engine.specs.declared.state.tables.Tables.{Tables}
 use Rattle.amr_engine.specs.State.Records.{after_change, put_back, is_covered_by, has_entry, IsNoNotification, NotesEntered, befores, before_all}
 use Rattle.amr_engine.specs.State.Stored.{shown_by, change_back}
@@ -39,7 +39,7 @@ put_back-change t (OfMoment now) h = refl
 put_back-change t (OfRoster roster) h = refl
 put_back-change t (OfAlert labels alert) h = ap (λ (m : Alerts). record (shown_by t) { alerts = m }) (set-back label_set_cmp_total label_set_cmp-IsAntisymmetric (shown_by t).alerts labels alert)
 put_back-change t (OfSilence id silence) h = ap (λ (m : Silences). record (shown_by t) { silences = m }) (set-back nat_cmp_total nat_cmp-IsAntisymmetric (shown_by t).silences id silence)
-put_back-change t (OfMember member alert) h = ap (λ (m : Map route_labels_cmp Alert). record (shown_by t) { placements = m }) (set-back route_labels_cmp_total route_labels_cmp-IsAntisymmetric (shown_by t).placements (member_on_route member) alert)
+put_back-change t (OfMember member alert) h = ap (λ (m : Map route_labels_cmp Alert). record (shown_by t) { placements = m }) (set-back route_labels_cmp_total route_labels_cmp-IsAntisymmetric (shown_by t).placements member alert)
 put_back-change t (OfTimer group timer) h = ap (λ (m : Map route_labels_cmp GroupTimer). record (shown_by t) { timers = m }) (set-back route_labels_cmp_total route_labels_cmp-IsAntisymmetric (shown_by t).timers group timer)
 put_back-change t (OfLog key entry) h = ap (λ (m : Map log_key_cmp LogEntry). record (shown_by t) { log = m }) (set-back log_key_cmp_total log_key_cmp-IsAntisymmetric (shown_by t).log key entry)
 put_back-change t (OfNotes count) h = absurd h
@@ -95,7 +95,7 @@ overwrite s (OfMoment a) (OfMoment b) t h = refl
 overwrite s (OfRoster a) (OfRoster b) t h = refl
 overwrite s (OfAlert a v) (OfAlert b w) t h = ap (λ (m : Alerts). record s { alerts = m }) (set-set label_set_cmp_total label_set_cmp-IsAntisymmetric s.alerts a b v w t)
 overwrite s (OfSilence a v) (OfSilence b w) t h = ap (λ (m : Silences). record s { silences = m }) (set-set nat_cmp_total nat_cmp-IsAntisymmetric s.silences a b v w t)
-overwrite s (OfMember a v) (OfMember b w) t h = ap (λ (m : Map route_labels_cmp Alert). record s { placements = m }) (set-set route_labels_cmp_total route_labels_cmp-IsAntisymmetric s.placements (member_on_route a) (member_on_route b) v w t)
+overwrite s (OfMember a v) (OfMember b w) t h = ap (λ (m : Map route_labels_cmp Alert). record s { placements = m }) (set-set route_labels_cmp_total route_labels_cmp-IsAntisymmetric s.placements a b v w t)
 overwrite s (OfTimer a v) (OfTimer b w) t h = ap (λ (m : Map route_labels_cmp GroupTimer). record s { timers = m }) (set-set route_labels_cmp_total route_labels_cmp-IsAntisymmetric s.timers a b v w t)
 overwrite s (OfLog a v) (OfLog b w) t h = ap (λ (m : Map log_key_cmp LogEntry). record s { log = m }) (set-set log_key_cmp_total log_key_cmp-IsAntisymmetric s.log a b v w t)
 overwrite s (OfMember a v) (OfRoster b) t h = refl
@@ -115,7 +115,7 @@ commute s a (OfRoster b) _ h f = absurd h
 commute s (OfMoment a) (OfMoment b) _ _ f = absurd (unlike (sym f))
 commute s (OfAlert a v) (OfAlert b w) _ _ f = ap (λ (m : Alerts). record s { alerts = m }) (set-swap label_set_cmp_total label_set_cmp-IsAntisymmetric s.alerts a b v w f)
 commute s (OfSilence a v) (OfSilence b w) _ _ f = ap (λ (m : Silences). record s { silences = m }) (set-swap nat_cmp_total nat_cmp-IsAntisymmetric s.silences a b v w f)
-commute s (OfMember a v) (OfMember b w) _ _ f = ap (λ (m : Map route_labels_cmp Alert). record s { placements = m }) (set-swap route_labels_cmp_total route_labels_cmp-IsAntisymmetric s.placements (member_on_route a) (member_on_route b) v w f)
+commute s (OfMember a v) (OfMember b w) _ _ f = ap (λ (m : Map route_labels_cmp Alert). record s { placements = m }) (set-swap route_labels_cmp_total route_labels_cmp-IsAntisymmetric s.placements a b v w f)
 commute s (OfTimer a v) (OfTimer b w) _ _ f = ap (λ (m : Map route_labels_cmp GroupTimer). record s { timers = m }) (set-swap route_labels_cmp_total route_labels_cmp-IsAntisymmetric s.timers a b v w f)
 commute s (OfLog a v) (OfLog b w) _ _ f = ap (λ (m : Map log_key_cmp LogEntry). record s { log = m }) (set-swap log_key_cmp_total log_key_cmp-IsAntisymmetric s.log a b v w f)
 commute s (OfNotes a) (OfNotes b) _ _ f = absurd (unlike (sym f))

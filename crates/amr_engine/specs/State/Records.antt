@@ -8,7 +8,7 @@ use Rattle.amr_engine.specs.declared.state.change.Change.{Change}
 use Rattle.amr_engine.specs.declared.state.change.Change.TheVariants.{OfMoment, OfRoster, OfAlert, OfSilence, OfMember, OfTimer, OfLog, OfNotes}
 use Rattle.amr_tables.specs.Numbered.{map_of}
 use Rattle.amr_config.specs.RouteLabels.{route_labels_cmp}
-use Rattle.amr_engine.specs.State.State.{State, member_on_route, log_key_cmp}
+use Rattle.amr_engine.specs.State.State.{State, log_key_cmp}
 
 -- the state after a change: with the change's value at its place
 abbrev pub after_change : State → Change → State
@@ -16,7 +16,7 @@ after_change s (OfMoment moment) = record s { moment = moment }
 after_change s (OfRoster roster) = record s { config = roster.config; placements = map_of route_labels_cmp roster.placements; timers = map_of route_labels_cmp roster.timers }
 after_change s (OfAlert labels alert) = record s { alerts = set s.alerts labels alert }
 after_change s (OfSilence id silence) = record s { silences = set s.silences id silence }
-after_change s (OfMember member alert) = record s { placements = set s.placements (member_on_route member) alert }
+after_change s (OfMember member alert) = record s { placements = set s.placements member alert }
 after_change s (OfTimer group timer) = record s { timers = set s.timers group timer }
 after_change s (OfLog key entry) = record s { log = set s.log key entry }
 after_change s (OfNotes count) = record s { notes = take count s.notes }
@@ -33,7 +33,7 @@ is_covered_by (OfMoment a) (OfMoment b) = true
 is_covered_by (OfRoster a) (OfRoster b) = true
 is_covered_by (OfAlert a v) (OfAlert b w) = eq_by_cmp label_set_cmp a b
 is_covered_by (OfSilence a v) (OfSilence b w) = eq_by_cmp nat_cmp a b
-is_covered_by (OfMember a v) (OfMember b w) = eq_by_cmp route_labels_cmp (member_on_route a) (member_on_route b)
+is_covered_by (OfMember a v) (OfMember b w) = eq_by_cmp route_labels_cmp a b
 is_covered_by (OfMember a v) (OfRoster b) = true
 is_covered_by (OfTimer a v) (OfRoster b) = true
 is_covered_by (OfTimer a v) (OfTimer b w) = eq_by_cmp route_labels_cmp a b

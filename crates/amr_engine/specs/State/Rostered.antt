@@ -1,12 +1,11 @@
 -- The configuration in force with the groups, their timers and their members.
-use Rattle.std.specs.Prelude.{◌≡◌, ◌<◌, ℕ, IsTrue, List, length, map, Option, Some, is_some, option_map}
-use Rattle.std.specs.Option.{option_and_then}
+use Rattle.std.specs.Prelude.{◌≡◌, ◌<◌, ℕ, List, length, map, Option, Some, option_map, get_or}
 use Rattle.std.specs.Borrow.{Bor}
 use Rattle.amr_labels.specs.Map.{Map, get}
 use Rattle.amr_labels.specs.Labels.{LabelSet}
 use Rattle.amr_config.specs.Stated.Config.{Config}
 use Rattle.amr_rules.specs.declared.alert.Alert.{Alert}
-use Rattle.amr_tables.specs.Numbered.{Numbered, map_of, has_place, number_of, IsNumber}
+use Rattle.amr_tables.specs.Numbered.{Numbered, map_of, number_of, IsNumber}
 use Rattle.amr_tables.specs.Grouped.{Grouped, group_at}
 use Rattle.amr_engine.specs.declared.state.notification.GroupTimer.{GroupTimer}
 use Rattle.amr_config.specs.declared.route_labels.RouteLabels.{RouteLabels}
@@ -24,15 +23,17 @@ pub record Rostered : Type 0 where
   pub placements : Numbered RouteLabels Alert
   pub timers : Numbered RouteLabels GroupTimer
 
--- the number of the group that a member is in, or none if there is no such member
-abbrev pub group_number : Config → Numbered RouteLabels GroupTimer → RouteLabels → Option Alert → Option ℕ
-group_number config timers route_labels alert = option_and_then (λ _. number_of route_labels_cmp timers (group_key config route_labels)) alert
+-- the number of the group that the place with a number belongs to
+abbrev pub home_at : List ℕ → ℕ → ℕ
+home_at homes n = get_or homes n 0
 
--- Each member is in its group, by the numbers of both, and no other number is in a group.
-pub record IsGrouped (config : Config) (placements : Numbered RouteLabels Alert) (timers : Numbered RouteLabels GroupTimer) (members : Grouped) : Type 0 where
+-- The home of each place is the group that the configuration gives its key, by the numbers of both.
+-- Each member is in the group that is its home, and no other number is in a group.
+pub record IsGrouped (config : Config) (placements : Numbered RouteLabels Alert) (timers : Numbered RouteLabels GroupTimer) (homes : List ℕ) (members : Grouped) : Type 0 where
   pub numbered : AreNumbered route_labels_cmp placements
-  pub grouped : (key : RouteLabels) (n : ℕ) → number_of route_labels_cmp placements key ≡ Some n → group_at members n ≡ group_number config timers key (get (map_of route_labels_cmp placements) key)
-  pub known : (key : RouteLabels) → IsTrue (is_some (get (map_of route_labels_cmp placements) key)) → IsTrue (has_place route_labels_cmp timers (group_key config key))
+  pub home : (key : RouteLabels) (n : ℕ) → number_of route_labels_cmp placements key ≡ Some n → number_of route_labels_cmp timers (group_key config key) ≡ Some (home_at homes n)
+  pub grouped : (key : RouteLabels) (n : ℕ) → number_of route_labels_cmp placements key ≡ Some n → group_at members n ≡ option_map (λ _. home_at homes n) (get (map_of route_labels_cmp placements) key)
+  pub home_room : (key : RouteLabels) (n : ℕ) → number_of route_labels_cmp placements key ≡ Some n → n < length homes
   pub named : (n g : ℕ) → group_at members n ≡ Some g → IsNumber route_labels_cmp placements n
   pub room : (key : RouteLabels) (n : ℕ) → number_of route_labels_cmp placements key ≡ Some n → n < length members.groups
   pub group_room : (group : RouteLabels) (g : ℕ) → number_of route_labels_cmp timers group ≡ Some g → g < members.count

@@ -20,16 +20,11 @@ use Rattle.amr_config.specs.Routing.{chosen_routes, group_of, group_wait_of}
 use Rattle.amr_rules.specs.declared.alert.Alert.{Alert}
 use Rattle.amr_rules.specs.declared.dedup.LogEntry.{LogEntry}
 use Rattle.amr_config.specs.declared.route_labels.RouteLabels.{RouteLabels}
-use Rattle.amr_engine.specs.declared.state.membership.Membership.{Membership}
 use Rattle.amr_engine.specs.declared.state.notification.GroupTimer.{GroupTimer}
 use Rattle.amr_engine.specs.declared.state.notification.LogKey.{LogKey}
 use Rattle.amr_engine.specs.declared.state.notification.Notification.{Notification}
 use Rattle.amr_rules.specs.Silences.{Silences}
 use Rattle.amr_rules.specs.Muting.{Alerts}
-
--- a member's key: its labels, on the route of its group
-abbrev pub member_on_route : Membership → RouteLabels
-member_on_route member = member.member
 
 -- by receiver, integration, group labels and path
 abbrev pub log_key_cmp : LogKey → LogKey → Ordering

@@ -13,7 +13,7 @@ use Rattle.amr_engine.specs.declared.state.change.Change.{Change}
 use Rattle.amr_engine.specs.declared.state.change.Change.TheVariants.{OfMoment, OfRoster, OfAlert, OfSilence, OfMember, OfTimer, OfLog, OfNotes}
 use Rattle.amr_engine.specs.declared.state.tables.Tables.{Tables}
 use Rattle.amr_config.specs.RouteLabels.{route_labels_cmp}
-use Rattle.amr_engine.specs.State.State.{State, member_on_route, group_key, log_key_cmp}
+use Rattle.amr_engine.specs.State.State.{State, log_key_cmp}
 use Rattle.amr_engine.specs.State.Records.{is_covered_by, has_entry, NotesEntered}
 use Rattle.amr_engine.specs.State.Kept.{Kept}
 use Rattle.amr_engine.specs.declared.state.store.Store.TheInside.{Inside}
@@ -43,14 +43,13 @@ kept_of store = record {
   room = store.journal.record_room;
 }
 
--- an entry can be put back: its place exists, and so does that of a member's group, which is the one
--- that the configuration gives it
+-- an entry can be put back: its place exists
 abbrev pub IsSound : Tables → Change → Type 0
 IsSound tables (OfMoment moment) = moment ≤ latest_read
 IsSound tables (OfRoster roster) = Unit {0}
 IsSound tables (OfAlert labels alert) = IsTrue (has_place label_set_cmp tables.alerts labels)
 IsSound tables (OfSilence id silence) = IsTrue (has_place nat_cmp tables.silences id)
-IsSound tables (OfMember member alert) = IsTrue (has_place route_labels_cmp tables.roster.placements (member_on_route member)) × IsTrue (has_place route_labels_cmp tables.roster.timers member.group) × (member.group ≡ group_key tables.roster.config (member_on_route member))
+IsSound tables (OfMember member alert) = IsTrue (has_place route_labels_cmp tables.roster.placements member)
 IsSound tables (OfTimer group timer) = IsTrue (has_place route_labels_cmp tables.roster.timers group)
 IsSound tables (OfLog key entry) = IsTrue (has_place log_key_cmp tables.log key)
 IsSound tables (OfNotes count) = Unit {0}
@@ -76,7 +75,7 @@ change_back tables (OfMoment moment) = OfMoment tables.moment
 change_back tables (OfRoster roster) = OfRoster tables.roster
 change_back tables (OfAlert labels alert) = OfAlert labels (get (map_of label_set_cmp tables.alerts) labels)
 change_back tables (OfSilence id silence) = OfSilence id (get (map_of nat_cmp tables.silences) id)
-change_back tables (OfMember member alert) = OfMember member (get (map_of route_labels_cmp tables.roster.placements) (member_on_route member))
+change_back tables (OfMember member alert) = OfMember member (get (map_of route_labels_cmp tables.roster.placements) member)
 change_back tables (OfTimer group timer) = OfTimer group (get (map_of route_labels_cmp tables.roster.timers) group)
 change_back tables (OfLog key entry) = OfLog key (get (map_of log_key_cmp tables.log) key)
 change_back tables (OfNotes count) = OfNotes (length tables.notes.items)
@@ -87,25 +86,20 @@ is_marked_at tables (OfMoment moment) = tables.is_moment_entered
 is_marked_at tables (OfRoster roster) = false
 is_marked_at tables (OfAlert labels alert) = is_entered label_set_cmp tables.alerts labels
 is_marked_at tables (OfSilence id silence) = is_entered nat_cmp tables.silences id
-is_marked_at tables (OfMember member alert) = tables.is_roster_entered || is_entered route_labels_cmp tables.roster.placements (member_on_route member)
+is_marked_at tables (OfMember member alert) = tables.is_roster_entered || is_entered route_labels_cmp tables.roster.placements member
 is_marked_at tables (OfTimer group timer) = tables.is_roster_entered || is_entered route_labels_cmp tables.roster.timers group
 is_marked_at tables (OfLog key entry) = is_entered log_key_cmp tables.log key
 is_marked_at tables (OfNotes count) = tables.are_notes_entered
 
--- the number is that of the change's place, and a member's group has a number; the clock, the
--- roster and the notifications are in no table
+-- the number is that of the change's place; the clock, the roster and the notifications are in no
+-- table
 abbrev pub IsPlaceOf : Tables → Change → ℕ → Type 0
 IsPlaceOf tables (OfAlert labels alert) n = number_of label_set_cmp tables.alerts labels ≡ Some n
 IsPlaceOf tables (OfSilence id silence) n = number_of nat_cmp tables.silences id ≡ Some n
-IsPlaceOf tables (OfMember member alert) n = (number_of route_labels_cmp tables.roster.placements (member_on_route member) ≡ Some n) × IsTrue (has_place route_labels_cmp tables.roster.timers member.group)
+IsPlaceOf tables (OfMember member alert) n = number_of route_labels_cmp tables.roster.placements member ≡ Some n
 IsPlaceOf tables (OfTimer group timer) n = number_of route_labels_cmp tables.roster.timers group ≡ Some n
 IsPlaceOf tables (OfLog key entry) n = number_of log_key_cmp tables.log key ≡ Some n
 IsPlaceOf tables _ n = Unit {0}
-
--- a member has its place at the number
-abbrev pub HasMemberAt : Tables → Change → ℕ → Type 0
-HasMemberAt tables (OfMember member alert) n = number_of route_labels_cmp tables.roster.placements (member_on_route member) ≡ Some n
-HasMemberAt tables _ n = Unit {0}
 
 -- no mark is new
 abbrev pub NoNewMark : Tables → Tables → Change → Type 0
@@ -119,9 +113,8 @@ NewMarkAt e a b place = IsTrue (is_marked_at b place) → IsTrue (is_covered_by 
 abbrev pub IsUnmarked : Tables → Type 0
 IsUnmarked tables = (place : Change) → is_marked_at tables place ≡ false
 
--- the second tables have the configuration and all places of the first
+-- the second tables have all places of the first
 pub record MorePlaces (a b : Tables) : Type 0 where
-  pub config : b.roster.config ≡ a.roster.config
   pub alerts : (k : LabelSet) → IsTrue (has_place label_set_cmp a.alerts k) → IsTrue (has_place label_set_cmp b.alerts k)
   pub silences : (k : ℕ) → IsTrue (has_place nat_cmp a.silences k) → IsTrue (has_place nat_cmp b.silences k)
   pub placements : (k : RouteLabels) → IsTrue (has_place route_labels_cmp a.roster.placements k) → IsTrue (has_place route_labels_cmp b.roster.placements k)

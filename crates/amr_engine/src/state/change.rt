@@ -5,7 +5,6 @@ ghost use Rattle.amr_labels.specs.Map as map;
 ghost use Rattle.amr_config.specs.RouteLabels.{route_labels_cmp};
 ghost use Rattle.amr_tables.specs.Numbered.{map_of};
 
-use crate::state::membership::Membership;
 use crate::state::notification::{GroupTimer, LogKey};
 use crate::state::roster::Roster;
 use amr_config::{Config, RouteLabels};
@@ -28,8 +27,8 @@ pub enum Change {
     OfAlert(Labels, Option<Shared<Alert>>),
     /// The silence with this id.
     OfSilence(SilenceId, Option<Silence>),
-    /// The member of a group with these labels.
-    OfMember(Membership, Option<Shared<Alert>>),
+    /// The member of a group with these labels on this route.
+    OfMember(RouteLabels, Option<Shared<Alert>>),
     /// The timer of a group.
     OfTimer(RouteLabels, Option<GroupTimer>),
     /// The entry of the notification log under this key.

@@ -2,8 +2,7 @@
 //! made and entered, which takes no memory. `Store` does one after the other.
 ghost use Rattle.std.specs.Prelude.{◌≡◌, ◌<◌, OnOk, IfOk, IfSome};
 ghost use Rattle.amr_engine.specs.State.Records.{after_change};
-ghost use Rattle.amr_engine.specs.State.Fitting.{FitsOne};
-ghost use Rattle.amr_engine.specs.State.Stored.{shown_by, with_roster, IsEntered, IsPlaceOf, IsRoomier, HasMemberAt, MorePlaces};
+ghost use Rattle.amr_engine.specs.State.Stored.{shown_by, with_roster, IsEntered, IsPlaceOf, IsRoomier, MorePlaces};
 
 use crate::state::change::Change;
 use crate::state::tables::Tables;
@@ -19,8 +18,7 @@ pub(crate) fn make_room(
     known: Option<usize>,
     change: &Change,
 ) -> Result<usize, AllocError>
-    requires known { IfSome known (λ number. IsPlaceOf tables.old change.now number) }
-    requires fits { FitsOne (shown_by tables.old) change.now }
+    requires { IfSome known (λ number. IsPlaceOf tables.old change.now number) }
     ensures number { IfOk result (λ number. IsPlaceOf tables.new change.now number) }
     ensures room { OnOk result (0 < journal.new.entry_room) }
     ensures roomier { IsRoomier tables.old journal.old tables.new journal.new }
@@ -44,10 +42,8 @@ pub(crate) fn enter(
 )
     requires room { 0 < journal.old.entry_room }
     requires number { IsPlaceOf tables.old change number }
-    requires fits { FitsOne (shown_by tables.old) change }
     ensures state { shown_by tables.new ≡ after_change (shown_by tables.old) change }
     ensures places { MorePlaces (with_roster tables.old change) tables.new }
-    ensures member { HasMemberAt tables.new change number }
     ensures entered { IsEntered tables.old journal.old change tables.new journal.new }
 {
     let was_marked = tables.displace(number, &mut change);

@@ -10,7 +10,7 @@ ghost use Rattle.amr_engine.specs.State.State.{timer_with, insert_into_group, in
 ghost use Rattle.amr_engine.specs.State.Kept.{GrownBy, before_open_record};
 
 use crate::state::change::Change;
-use crate::state::membership::Membership;
+use crate::state::keys::member_key;
 use crate::state::notification::GroupTimer;
 use crate::state::store::Store;
 use amr_config::RouteLabels;
@@ -96,8 +96,8 @@ fn insert_into_group(
     ensures kept { before_open_record store.new ≡ before_open_record store.old }
     ensures grown { GrownBy 2 store.old store.new }
 {
-    let member = Membership::new(group, labels)?;
-    let before = store.put_member(member, alert.clone()?)?;
+    let member = member_key(group, labels)?;
+    let before = store.put_member(group, member, alert.clone()?)?;
     let wait = store.config().group_wait(group.route);
     let after = timer_with(store.moment(), wait, alert.get(), before);
     change_timer(store, group, before, after)

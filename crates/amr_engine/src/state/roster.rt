@@ -1,24 +1,23 @@
 //! The configuration in force with the groups: their timers and their members. `Store` changes it.
 //! The group of a member depends on the configuration, so both are kept together. This is all that a
 //! change of the configuration drops.
-ghost use Rattle.std.specs.Prelude.{◌≡◌, ◌≢◌, ◌++◌, [], IsTrue, Some, None, map, is_some, option_map, OnOk, IfOk};
-ghost use Rattle.std.specs.Option.{option_and_then};
+ghost use Rattle.std.specs.Prelude.{◌≡◌, ◌≢◌, ◌<◌, ◌≤◌, ◌++◌, [], ℕ, Some, None, length, map, option_map, OnOk, IfOk};
 ghost use Rattle.amr_labels.specs.Labels.{label_set_cmp};
 ghost use Rattle.amr_labels.specs.Map as map;
 ghost use Rattle.amr_config.specs.Groups.{groups_of};
 ghost use Rattle.amr_config.specs.Stated.RuleMatches.{rule_matches};
-ghost use Rattle.amr_tables.specs.Numbered.{map_of, has_place, number_of, IsMarkOf, IsNumber, IsSetAt, IsValueOf, KeepsPlaces, SamePlaces, EntersAt, SameEntered, NoneEntered};
+ghost use Rattle.amr_tables.specs.Numbered.{map_of, number_of, IsMarkOf, IsNumber, IsSetAt, IsValueOf, KeepsPlaces, SamePlaces, EntersAt, SameEntered, NoneEntered};
 ghost use Rattle.std.specs.List.{All, filter_map, cons_option};
 ghost use Rattle.amr_config.specs.RouteLabels.{route_labels_cmp};
-ghost use Rattle.amr_engine.specs.State.State.{member_on_route, group_key, members_among};
+ghost use Rattle.amr_engine.specs.State.State.{group_key, members_among};
 ghost use Rattle.amr_engine.specs.State.Dues.{dues_of, kind_of, group_of};
 ghost use Rattle.amr_engine.specs.declared.state.due.Kind.TheVariants.{AlertRemoval, GroupRemoval, GroupFlush};
 ghost use Rattle.amr_engine.specs.State.Timed.{AreNumbered, IsScheduled, IsFirstOfKind, flush_moment, removal_moment, group_moment, timer_of, due_of};
-ghost use Rattle.amr_engine.specs.State.Rostered.{labels_of_members, labels_of_numbered, numbered_labels, with_alert, IsNumbered};
+ghost use Rattle.amr_engine.specs.State.Rostered.{home_at, labels_of_members, labels_of_numbered, numbered_labels, with_alert, IsNumbered};
 
 use crate::state::due::{Kind, group_removal};
+use crate::state::keys::group_key;
 use crate::state::members::Member;
-use crate::state::membership::Membership;
 use crate::state::notification::GroupTimer;
 use crate::state::pending::{Pending, TimerRef, count_with_next};
 use amr_config::stated::RuleMatch;
@@ -31,16 +30,18 @@ use std::alloc::{AllocError, Global};
 use std::marker::Model;
 use std::mem;
 
-/// The configuration in force, and the groups with their timers and members. Every change of a
-/// member puts its number into the number of its group, or takes it out, and every change of a timer
-/// updates its moments.
+/// The configuration in force, and the groups with their timers and members. A member that comes or
+/// leaves joins the numbers of its group or is taken out, and every change of a timer updates its
+/// moments.
 #[derive(Drop)]
 pub(crate) struct Roster {
     alloc: Global,
     config: Router,
     placements: Keyed<RouteLabels, Shared<Alert>>,
     timers: Keyed<RouteLabels, GroupTimer>,
-    /// The group of each member, by their numbers.
+    /// The group that each place of a member belongs to, by their numbers.
+    homes: Vec<usize>,
+    /// Those that are members now, by the numbers of their groups.
     members: Grouped,
     /// When each group without members is removed, by their numbers.
     removals: Earliest,
@@ -60,7 +61,7 @@ impl Model for Roster {
 
     ghost view = { λ r. record { config = r.config; placements = r.placements; timers = r.timers } };
 
-    ghost invariant = { λ r. IsGrouped r.config r.placements r.timers r.members
+    ghost invariant = { λ r. IsGrouped r.config r.placements r.timers r.homes.items r.members
         × AreTimed r.timers r.removals r.flushes };
 }
 
@@ -78,6 +79,7 @@ impl Roster {
             config: Router::new(alloc, config),
             placements: Keyed::new(alloc),
             timers: Keyed::new(alloc),
+            homes: Vec::new(alloc),
             members: Grouped::new(alloc),
             removals: Earliest::new(alloc),
             flushes: Earliest::new(alloc),
@@ -202,14 +204,11 @@ impl Roster {
         self.timers.clear_entered();
     }
 
-    /// Returns the number of a member's place. Makes the place if there is none, and gives the
-    /// member's group a number. A group with this member has one.
-    pub(crate) fn place_member(&mut self, member: &Membership) -> Result<usize, AllocError>
-        requires { member.now.group ≡ group_key self.old.config (member_on_route member.now) }
-        ensures number { IfOk result (λ number. number_of route_labels_cmp self.new.placements
-            (member_on_route member.now) ≡ Some number) }
-        ensures known { OnOk result
-            (IsTrue (has_place route_labels_cmp self.new.timers member.now.group)) }
+    /// Returns the number of a member's place. Makes the place if there is none, in the group that
+    /// the configuration gives it.
+    pub(crate) fn place_member(&mut self, member: &RouteLabels) -> Result<usize, AllocError>
+        ensures number { IfOk result (λ number.
+            number_of route_labels_cmp self.new.placements member.now ≡ Some number) }
         ensures shown { map_of route_labels_cmp self.new.placements
             ≡ map_of route_labels_cmp self.old.placements }
         ensures entered { SameEntered route_labels_cmp self.old.placements self.new.placements }
@@ -220,30 +219,46 @@ impl Roster {
         ensures timer_places { KeepsPlaces route_labels_cmp self.old.timers self.new.timers }
         ensures config { self.new.config ≡ self.old.config }
     {
-        let (number, alert) = self.placements.look_up_number(&member.member);
-        if let (Some(number), Some(_)) = (number, alert) {
+        if let Some(number) = self.placements.number_of(member) {
             return Ok(number);
         }
-        self.place_group(&member.group)?;
-        match number {
-            Some(number) => Ok(number),
-            None => self.add_member(&member.member),
+        let config = self.config.config();
+        let group = group_key(self.alloc, config, member.route, &member.labels)?;
+        self.place_in_group(member, &group)
+    }
+
+    /// Returns the number of a member's place. Makes the place if there is none, in this group,
+    /// which is the one that the configuration gives it.
+    pub(crate) fn place_in_group(
+        &mut self,
+        member: &RouteLabels,
+        group: &RouteLabels,
+    ) -> Result<usize, AllocError>
+        requires { group.now ≡ group_key self.old.config member.now }
+        ensures number { IfOk result (λ number.
+            number_of route_labels_cmp self.new.placements member.now ≡ Some number) }
+        ensures shown { map_of route_labels_cmp self.new.placements
+            ≡ map_of route_labels_cmp self.old.placements }
+        ensures entered { SameEntered route_labels_cmp self.old.placements self.new.placements }
+        ensures places { KeepsPlaces route_labels_cmp self.old.placements self.new.placements }
+        ensures timers { map_of route_labels_cmp self.new.timers
+            ≡ map_of route_labels_cmp self.old.timers }
+        ensures timers_entered { SameEntered route_labels_cmp self.old.timers self.new.timers }
+        ensures timer_places { KeepsPlaces route_labels_cmp self.old.timers self.new.timers }
+        ensures config { self.new.config ≡ self.old.config }
+    {
+        if let Some(number) = self.placements.number_of(member) {
+            return Ok(number);
         }
+        let home = self.place_group(group)?;
+        self.add_member(member, home)
     }
 
     /// Swaps the alert of a member of its group, or `None` if it is no member, with another, given
     /// the number of its place, and marks the place as entered. Returns whether the place was marked
     /// before. A member that stays in its group keeps its links there. It takes no memory.
-    pub(crate) fn swap_member(
-        &mut self,
-        number: usize,
-        member: &Membership,
-        alert: &mut Option<Shared<Alert>>,
-    ) -> bool
-        requires place { number_of route_labels_cmp self.old.placements
-            (member_on_route member.now) ≡ Some number }
-        requires known { IsTrue (has_place route_labels_cmp self.old.timers member.now.group) }
-        requires group { member.now.group ≡ group_key self.old.config (member_on_route member.now) }
+    pub(crate) fn swap_member(&mut self, number: usize, alert: &mut Option<Shared<Alert>>) -> bool
+        requires { IsNumber route_labels_cmp self.old.placements number }
         ensures former { IsValueOf route_labels_cmp self.old.placements number alert.new }
         ensures was_entered { IsMarkOf route_labels_cmp self.old.placements number result }
         ensures shown { IsSetAt route_labels_cmp self.old.placements number alert.old
@@ -251,18 +266,16 @@ impl Roster {
         ensures places { SamePlaces route_labels_cmp self.old.placements self.new.placements }
         ensures entered { EntersAt route_labels_cmp self.old.placements number
             self.new.placements }
-        ensures number { number_of route_labels_cmp self.new.placements
-            (member_on_route member.now) ≡ Some number }
+        ensures keys { self.new.placements.numbers ≡ self.old.placements.numbers }
         ensures timers { self.new.timers ≡ self.old.timers }
         ensures config { self.new.config ≡ self.old.config }
     {
         if self.placements.at(number).is_some() == alert.is_some() {
             return self.placements.swap_at(number, alert);
         }
-        let in_group = group_if_member(&self.timers, &member.group, alert);
-        let was_entered = self.placements.swap_at(number, alert);
-        self.members.set(number, in_group);
-        was_entered
+        let group = home_of_member(&self.homes, number, alert);
+        self.members.set(number, group);
+        self.placements.swap_at(number, alert)
     }
 
     /// Returns the timer of a member's group, given the number of the member's place. It compares no
@@ -270,13 +283,12 @@ impl Roster {
     pub(crate) fn group_timer_of(&self, number: usize) -> Option<GroupTimer>
         ensures { (member : RouteLabels)
             → number_of route_labels_cmp self.now.placements member ≡ Some number
-            → IsTrue (is_some (map.get (map_of route_labels_cmp self.now.placements) member))
             → result ≡ map.get (map_of route_labels_cmp self.now.timers)
             (group_key self.now.config member) }
     {
-        match self.members.group_of(number) {
+        match self.homes.get(number) {
             None => None,
-            Some(group) => self.timers.at(group).copied(),
+            Some(home) => self.timers.at(*home).copied(),
         }
     }
 
@@ -354,11 +366,13 @@ impl Roster {
         Ok(number)
     }
 
-    /// Makes a place for a member that has none, with room for its group. Returns its number.
-    fn add_member(&mut self, route_labels: &RouteLabels) -> Result<usize, AllocError>
-        requires { number_of route_labels_cmp self.old.placements route_labels.now ≡ None }
+    /// Makes a place for a member that has none, in the group with a number. Returns its number.
+    fn add_member(&mut self, member: &RouteLabels, home: usize) -> Result<usize, AllocError>
+        requires new { number_of route_labels_cmp self.old.placements member.now ≡ None }
+        requires home { number_of route_labels_cmp self.old.timers
+            (group_key self.old.config member.now) ≡ Some home }
         ensures number { IfOk result (λ number.
-            number_of route_labels_cmp self.new.placements route_labels.now ≡ Some number) }
+            number_of route_labels_cmp self.new.placements member.now ≡ Some number) }
         ensures shown { map_of route_labels_cmp self.new.placements
             ≡ map_of route_labels_cmp self.old.placements }
         ensures entered { SameEntered route_labels_cmp self.old.placements self.new.placements }
@@ -366,28 +380,38 @@ impl Roster {
         ensures timers { self.new.timers ≡ self.old.timers }
         ensures config { self.new.config ≡ self.old.config }
     {
-        let key = route_labels.clone()?;
+        let key = member.clone()?;
         let count = count_with_next(&self.placements)?;
         self.members.reserve_numbers(count)?;
+        reserve_homes(&mut self.homes, count)?;
         let number = self.placements.make_place(key)?;
+        self.homes[number] = home;
         Ok(number)
     }
 }
 
-/// Returns the number of a group, if there is an alert to be its member. Without one it looks nothing
-/// up.
-fn group_if_member(
-    timers: &Keyed<RouteLabels, GroupTimer>,
-    group: &RouteLabels,
-    alert: &Option<Shared<Alert>>,
-) -> Option<usize>
-    ensures { result
-        ≡ option_and_then (λ _. number_of route_labels_cmp timers.now group.now) alert.now }
+/// Returns the group that the place with a number belongs to, if there is an alert to be a member.
+fn home_of_member(homes: &Vec<usize>, number: usize, alert: &Option<Shared<Alert>>) -> Option<usize>
+    requires { number < length homes.now.items }
+    ensures { result ≡ option_map (λ _. home_at homes.now.items number) alert.now }
 {
     match alert {
         None => None,
-        Some(_) => timers.number_of(group),
+        Some(_) => Some(homes[number]),
     }
+}
+
+/// Makes room for the homes of the numbers below `count`.
+fn reserve_homes(homes: &mut Vec<usize>, count: usize) -> Result<(), AllocError>
+    ensures room { OnOk result (count ≤ length homes.new.items) }
+    ensures more { length homes.old.items ≤ length homes.new.items }
+    ensures same { (n : ℕ) → n < length homes.old.items
+        → home_at homes.new.items n ≡ home_at homes.old.items n }
+{
+    if count <= homes.len() {
+        return Ok(());
+    }
+    homes.resize(count, 0)
 }
 
 /// Returns copies of the labels and alerts of members on a route, given with the numbers of their

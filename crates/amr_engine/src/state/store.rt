@@ -15,7 +15,7 @@ ghost use Rattle.amr_time.specs.Time.{latest_read};
 ghost use Rattle.amr_rules.specs.Alerts.{alert_to_store};
 ghost use Rattle.amr_rules.specs.Muting.{is_silenced, silencer_of};
 ghost use Rattle.amr_config.specs.RouteLabels.{route_labels_cmp};
-ghost use Rattle.amr_engine.specs.State.State.{start, group_key, members, member_on_route, timers_after_flush, log_key_cmp};
+ghost use Rattle.amr_engine.specs.State.State.{start, group_key, members, timers_after_flush, log_key_cmp};
 ghost use Rattle.amr_engine.specs.State.Dues.{next_due};
 ghost use Rattle.amr_engine.specs.Calm.{AreNoneRemoved};
 ghost use Rattle.amr_engine.specs.State.Logged.{is_due};
@@ -29,7 +29,6 @@ use crate::state::change::{BoxedRoster, Change};
 use crate::state::due::Due;
 use crate::state::entering::{enter, make_room};
 use crate::state::members::Member;
-use crate::state::membership::Membership;
 use crate::state::notification::{GroupTimer, LogKey, Notification};
 use crate::state::roster::Roster;
 use crate::state::tables::Tables;
@@ -360,7 +359,7 @@ impl Store {
     /// has one of its place.
     #[inline(always)]
     pub fn change(&mut self, change: Change) -> Result<(), AllocError>
-        requires { IsAllowed self.old.state change }
+        requires { IsAllowed change }
         ensures ok { OnOk result (self.new.state ≡ after_change self.old.state change) }
         ensures kept { before_open_record self.new ≡ before_open_record self.old }
         ensures grown { GrownBy 1 self.old self.new }
@@ -397,24 +396,24 @@ impl Store {
     /// the group timer. If the labels are in the group already, it looks for nothing but these.
     pub(crate) fn put_member(
         &mut self,
-        member: Membership,
+        group: &RouteLabels,
+        member: RouteLabels,
         alert: Shared<Alert>,
     ) -> Result<Option<GroupTimer>, AllocError>
-        requires { member.group ≡ group_key self.old.state.config (member_on_route member) }
-        ensures timer { IfOk result (λ timer. timer
-            ≡ map.get self.old.state.timers member.group) }
+        requires { group.now ≡ group_key self.old.state.config member }
+        ensures timer { IfOk result (λ timer. timer ≡ map.get self.old.state.timers group.now) }
         ensures ok { OnOk result (self.new.state
-            ≡ record self.old.state {
-              placements = map.insert self.old.state.placements
-                  (member_on_route member) alert;
-            }) }
+            ≡ record self.old.state
+            { placements = map.insert self.old.state.placements member alert }) }
         ensures kept { before_open_record self.new ≡ before_open_record self.old }
         ensures grown { GrownBy 1 self.old self.new }
     {
+        let number = self.tables.place_in_group(&member, group)?;
+        let timer = self.tables.roster.group_timer_of(number);
         let change = Change::OfMember(member, Some(alert));
-        let number = make_room(&mut self.tables, &mut self.journal, None, &change)?;
+        let number = make_room(&mut self.tables, &mut self.journal, Some(number), &change)?;
         enter(&mut self.tables, &mut self.journal, number, change);
-        Ok(self.tables.roster.group_timer_of(number))
+        Ok(timer)
     }
 
     /// Sets the next flush of a group and marks the group as flushed. Does nothing if there is no

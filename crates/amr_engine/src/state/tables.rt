@@ -5,12 +5,12 @@ ghost use Rattle.std.specs.Prelude.{◌≡◌, ◌↔◌, ◌||◌, false, Some,
 ghost use Rattle.amr_tables.specs.Numbered.{map_of, has_place, number_of, KeepsPlaces, SameEntered};
 ghost use Rattle.amr_labels.specs.Labels.{label_set_cmp};
 ghost use Rattle.amr_config.specs.RouteLabels.{route_labels_cmp};
-ghost use Rattle.amr_engine.specs.State.State.{log_key_cmp};
+ghost use Rattle.amr_engine.specs.State.State.{group_key, log_key_cmp};
 ghost use Rattle.amr_engine.specs.State.Dues.{dues_of, due_by, least_due};
 ghost use Rattle.amr_engine.specs.Calm.{AreNoneRemoved};
 ghost use Rattle.amr_engine.specs.State.Records.{after_change};
-ghost use Rattle.amr_engine.specs.State.Fitting.{FitsOne, is_roster};
-ghost use Rattle.amr_engine.specs.State.Stored.{shown_by, change_back, with_roster, SameValues, MorePlaces, HasMemberAt, IsSound, IsPlaceOf, IsUnmarked, NoNewMark, NewMarkAt, is_marked_at};
+ghost use Rattle.amr_engine.specs.State.Fitting.{is_roster};
+ghost use Rattle.amr_engine.specs.State.Stored.{shown_by, change_back, with_roster, SameValues, MorePlaces, IsSound, IsPlaceOf, IsUnmarked, NoNewMark, NewMarkAt, is_marked_at};
 
 use crate::indexes::SilenceTable;
 use crate::state::alert_table::AlertTable;
@@ -19,6 +19,7 @@ use crate::state::due::Due;
 use crate::state::notification::{LogKey, Notification};
 use crate::state::pending::{earlier, if_due, is_due};
 use crate::state::roster::Roster;
+use amr_config::RouteLabels;
 use amr_labels::Shared;
 use amr_rules::LogEntry;
 use amr_tables::{Key, Keyed};
@@ -47,7 +48,6 @@ impl Tables {
     /// Returns the number of a change's place. Makes the place if there is none.
     #[inline(always)]
     pub(crate) fn place(&mut self, change: &Change) -> Result<usize, AllocError>
-        requires { FitsOne (shown_by self.old) change.now }
         ensures number { IfOk result (λ number. IsPlaceOf self.new change.now number) }
         ensures values { SameValues self.old self.new }
         ensures places { MorePlaces self.old self.new }
@@ -63,6 +63,22 @@ impl Tables {
         }
     }
 
+    /// Returns the number of the place of a member of a group. Makes the place if there is none.
+    pub(crate) fn place_in_group(
+        &mut self,
+        member: &RouteLabels,
+        group: &RouteLabels,
+    ) -> Result<usize, AllocError>
+        requires { group.now ≡ group_key self.old.roster.config member.now }
+        ensures number { IfOk result (λ number.
+            number_of route_labels_cmp self.new.roster.placements member.now ≡ Some number) }
+        ensures values { SameValues self.old self.new }
+        ensures places { MorePlaces self.old self.new }
+        ensures marks { (place : Change) → NoNewMark self.old self.new place }
+    {
+        self.roster.place_in_group(member, group)
+    }
+
     /// Returns the number of a change's place, which there is.
     pub(crate) fn find(&self, change: &Change) -> usize
         requires { IsSound self.now change.now }
@@ -71,7 +87,7 @@ impl Tables {
         match change {
             Change::OfAlert(labels, _) => number_in(self.alerts.by_number(), labels),
             Change::OfSilence(id, _) => number_in(self.silences.silences(), id),
-            Change::OfMember(member, _) => number_in(self.roster.placements(), &member.member),
+            Change::OfMember(member, _) => number_in(self.roster.placements(), member),
             Change::OfTimer(group, _) => number_in(self.roster.timers(), group),
             Change::OfLog(key, _) => number_in(&self.log, key),
             Change::OfMoment(_) | Change::OfRoster(_) | Change::OfNotes(_) => 0,
@@ -83,14 +99,12 @@ impl Tables {
     /// places in it are marked then. It takes no memory.
     #[inline(always)]
     pub(crate) fn displace(&mut self, number: usize, change: &mut Change) -> bool
-        requires number { IsPlaceOf self.old change.old number }
-        requires fits { FitsOne (shown_by self.old) change.old }
+        requires { IsPlaceOf self.old change.old number }
         ensures state { shown_by self.new ≡ after_change (shown_by self.old) change.old }
         ensures back { change.new ≡ change_back self.old change.old }
         ensures was_marked { result ≡ is_marked_at self.old change.old }
         ensures marked { is_marked_at self.new change.old ≡ not (is_roster change.old) }
         ensures places { MorePlaces (with_roster self.old change.old) self.new }
-        ensures member { HasMemberAt self.new change.old number }
         ensures roster { self.new.is_roster_entered
             ≡ (is_roster change.old || self.old.is_roster_entered) }
         ensures marks { (place : Change)
@@ -108,9 +122,9 @@ impl Tables {
             }
             Change::OfAlert(_, alert) => self.alerts.swap_at(number, alert),
             Change::OfSilence(id, silence) => self.silences.swap_at(id, number, silence),
-            Change::OfMember(member, alert) => is_either(
+            Change::OfMember(_, alert) => is_either(
                 self.is_roster_entered,
-                self.roster.swap_member(number, member, alert),
+                self.roster.swap_member(number, alert),
             ),
             Change::OfTimer(_, timer) => is_either(
                 self.is_roster_entered,

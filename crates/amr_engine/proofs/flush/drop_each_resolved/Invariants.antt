@@ -8,7 +8,6 @@ use Rattle.amr_engine.proofs.flush.drop_each_resolved.Given as goal
 abbrev pub invariant-loop-labels : goal.invariant-loop-labels
 invariant-loop-labels l = record {
   ok : fold (drop_member l.group) l.store.state (resolved_of l.at (drop l.labels-index l.members)) ≡ fold (drop_member l.group) l.fn.store.state (resolved_of l.at l.members);
-  config : l.store.state.config ≡ l.fn.store.state.config;
   kept : before_open_record l.store ≡ before_open_record l.fn.store;
   grown : GrownBy l.labels-index l.fn.store l.store;
 }

@@ -9,7 +9,7 @@ use Rattle.amr_tables.proofs.grouped.Grouped.numbers_of.Goals as goal
 pub loop-init : goal.loop-init
 loop-init c = record {
   walk = λ linked. subst (λ (x : List ℕ × Option ℕ). IsWalk (value_at c.self.inside.links.groups.items) (value_at c.self.inside.links.next.items) (value_at c.self.inside.links.firsts.items) linked.linked.depth c.args.group x.0 x.1)
-      (λ i. (sym c.new-found.ensures.items i, sym c.link_at-at.ensures i)) (walk_first linked.linked c.args.group);
+      (λ i. (sym c.new-found.ensures.items i, sym c.first-at.ensures i)) (walk_first linked.linked c.args.group);
   counted = ap length c.new-found.ensures.items;
 }
 

@@ -17,7 +17,7 @@ pub invariant_of-self : goal.invariant_of-self
 invariant_of-self c =
     let r = c.self.inside in
     let timed = c.self.invariant.1 in (
-      grouped_same r.config r.placements r.timers r.members c.self.invariant.0 c.clear_entered.new.self c.clear_entered-2.new.self r.members c.clear_entered.ensures.keys c.clear_entered.ensures.shown c.clear_entered-2.ensures.keys
+      grouped_same r.config r.placements r.timers r.homes.items r.members c.self.invariant.0 c.clear_entered.new.self c.clear_entered-2.new.self r.members c.clear_entered.ensures.keys c.clear_entered.ensures.shown c.clear_entered-2.ensures.keys
           (λ n. refl) (le_refl (length r.members.groups)) (le_refl r.members.count),
       timers_same r.timers r.removals r.flushes timed c.clear_entered-2.new.self c.clear_entered-2.ensures.keys c.clear_entered-2.ensures.shown
           r.removals (λ n. refl) (le_refl (length r.removals.moments)) (λ n h. h) timed.removed.ordered

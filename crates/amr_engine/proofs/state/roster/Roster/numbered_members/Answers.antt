@@ -19,7 +19,7 @@ pub returns-in_default-clause-labels : goal.returns-in_default-clause-labels
 returns-in_default-clause-labels c =
     let r = c.self.inside in
     let group = c.args.group.now in
-    ap labels_of_numbered c.new.ensures.items ∙ none_listed r.config r.placements r.timers r.members c.self.invariant.0 group (sym c.number_of.ensures.number ∙ c.in_default.is)
+    ap labels_of_numbered c.new.ensures.items ∙ none_listed r.config r.placements r.timers r.homes.items r.members c.self.invariant.0 group (sym c.number_of.ensures.number ∙ c.in_default.is)
     ∙ ap (λ (v : Rostered). labels_of_members (members_among v.config (map_of route_labels_cmp v.placements) group)) c.self.view_is
 
 pub unreachable-requires : goal.unreachable-requires
@@ -31,7 +31,7 @@ unreachable-requires c =
     let at : number_of route_labels_cmp r.timers c.args.group.now ≡ Some g = sym c.number_of.ensures.number ∙ c.in-Some.is in
     let there : group_at r.members (get_or items i 0) ≡ Some g =
     c.in_ok-members.ensures.members (get_or items i 0) (subst (λ xs. IsTrue (list_any (λ m. get_or items i 0 == m) xs)) c.as_slice-member-items.ensures.value (among_at items i 0 c.loop-member-test.true)) in
-    let by = member_of r.config r.placements r.timers r.members c.self.invariant.0 c.args.group.now c.self.invariant.1.numbered g at (get_or items i 0) there in
+    let by = member_of r.config r.placements r.timers r.homes.items r.members c.self.invariant.0 c.args.group.now c.self.invariant.1.numbered g at (get_or items i 0) there in
     not_none by.0 _ (sym (key_at_number route_labels_cmp_total route_labels_cmp-IsAntisymmetric r.placements c.key_at.ensures.numbering by.0 (get_or items i 0) by.1) ∙ sym c.key_at.ensures.key ∙ ap option_copied c.in_default-key_at.is)
 
 pub loop-member-preserved : goal.loop-member-preserved
@@ -48,7 +48,7 @@ loop-member-preserved c =
     c.in_ok-members.ensures.members n (subst (λ xs. IsTrue (list_any (λ m. n == m) xs)) c.as_slice-member-items.ensures.value (among_at items c.loop-member.member-index 0 c.loop-member-test.true)) in
     let own : IsNumbered c.args.self.now.placements group.route (labels, n) =
     subst (λ (v : Rostered). IsNumbered v.placements group.route (labels, n)) c.self.view_is
-    (named_by r.config r.placements r.timers r.members c.self.invariant.0 group c.self.invariant.1.numbered g at c.key_at.ensures.numbering n there c.in-Some-key_at.route_labels.now (sym (ap option_copied c.in-Some-key_at.is) ∙ c.key_at.ensures.key)) in
+    (named_by r.config r.placements r.timers r.homes.items r.members c.self.invariant.0 group c.self.invariant.1.numbered g at c.key_at.ensures.numbering n there c.in-Some-key_at.route_labels.now (sym (ap option_copied c.in-Some-key_at.is) ∙ c.key_at.ensures.key)) in
     record {
       numbers = ap numbers_of_listed c.in_ok-push.ensures.items ∙ map-append (λ (x : Bor LabelSet × ℕ). x.1) found _ ∙ ap (λ ns. ns ++ n ∷ []) c.loop-member.invariant.numbers ∙ sym (take_more items c.loop-member.member-index 0 c.loop-member-test.true);
       named = subst (All (IsNumbered c.args.self.now.placements group.route)) (sym (ap (map numbered_labels) c.in_ok-push.ensures.items ∙ map-append numbered_labels found _))
@@ -63,7 +63,7 @@ returns-clause-labels c =
     let found_are : numbers_of_listed c.loop-member.found.items ≡ c.in_ok-members.members.items = c.loop-member.invariant.numbers ∙ take_all _ _ c.loop-member-test.false ∙ c.as_slice-member-items.ensures.value in
     let named : All (IsNumbered r.placements group.route) (map numbered_labels c.loop-member.found.items) =
     subst (λ (v : Rostered). All (IsNumbered v.placements group.route) (map numbered_labels c.loop-member.found.items)) (sym c.self.view_is) c.loop-member.invariant.named in
-    labels_found r.config r.placements r.timers r.members c.self.invariant.0 group c.self.invariant.1.numbered c.in-Some.number at c.in_ok-members.members.items c.in_ok-members.ensures c.loop-member.found.items c.sort.new.self.items found_are named
+    labels_found r.config r.placements r.timers r.homes.items r.members c.self.invariant.0 group c.self.invariant.1.numbered c.in-Some.number at c.in_ok-members.members.items c.in_ok-members.ensures c.loop-member.found.items c.sort.new.self.items found_are named
     c.in_ok-sort.ensures.permutation c.in_ok-sort.ensures.sorted
     ∙ ap (λ (v : Rostered). labels_of_members (members_among v.config (map_of route_labels_cmp v.placements) group)) c.self.view_is
 
@@ -76,5 +76,5 @@ returns-clause-numbers c =
     let named : All (IsNumbered r.placements group.route) (map numbered_labels c.loop-member.found.items) =
     subst (λ (v : Rostered). All (IsNumbered v.placements group.route) (map numbered_labels c.loop-member.found.items)) (sym c.self.view_is) c.loop-member.invariant.named in
     subst (λ (v : Rostered). All (IsNumbered v.placements group.route) (map numbered_labels c.sort.new.self.items)) c.self.view_is
-    (all_listed r.config r.placements r.timers r.members c.self.invariant.0 group c.self.invariant.1.numbered c.in-Some.number at c.in_ok-members.members.items c.in_ok-members.ensures c.loop-member.found.items c.sort.new.self.items found_are named
+    (all_listed r.config r.placements r.timers r.homes.items r.members c.self.invariant.0 group c.self.invariant.1.numbered c.in-Some.number at c.in_ok-members.members.items c.in_ok-members.ensures c.loop-member.found.items c.sort.new.self.items found_are named
     c.in_ok-sort.ensures.permutation c.in_ok-sort.ensures.sorted)

@@ -35,7 +35,7 @@ invariant_of-self c =
     let group = c.requires.0 in
     let n = c.args.number in
     let number : number_of route_labels_cmp t.timers group ≡ Some n = ap (λ (v : Rostered). number_of route_labels_cmp v.timers group) c.self.view_is ∙ c.requires.1 in (
-      grouped_same t.config t.placements t.timers t.members c.self.invariant.0 t.placements c.swap_at-was_entered.new.self t.members refl refl c.swap_at-was_entered.ensures.keys (λ n. refl) (le_refl (length t.members.groups)) (le_refl t.members.count),
+      grouped_same t.config t.placements t.timers t.homes.items t.members c.self.invariant.0 t.placements c.swap_at-was_entered.new.self t.members refl refl c.swap_at-was_entered.ensures.keys (λ n. refl) (le_refl (length t.members.groups)) (le_refl t.members.count),
       timer_set t.timers t.removals t.flushes c.self.invariant.1 c.swap_at-was_entered.new.self c.set-2.new.self c.set.new.self group n c.args.timer.now number c.swap_at-was_entered.ensures.keys (c.swap_at-was_entered.ensures.shown group number)
           (c.set-2.ensures.moments ∙ ap (slice_set t.removals.moments n) c.removal_moment-removal.ensures) c.set-2.ensures.held c.set-2.ensures.kept
           (c.set.ensures.moments ∙ ap (slice_set t.flushes.moments n) c.flush_moment-flush.ensures) c.set.ensures.held c.set.ensures.kept,

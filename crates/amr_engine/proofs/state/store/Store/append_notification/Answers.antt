@@ -34,7 +34,7 @@ invariant_of-self-2 c =
           let all : c.push_reserved.new.self.items ≡ a.tables.notes.items ++ notification ∷ [] = items ∙ ap (λ (x : Inside). x.tables.notes.items ++ notification ∷ []) w.self-inside-is ∙ ap (λ xs. xs ++ notification ∷ []) c.reserve.ensures.items in
           let count : w.len.result ≡ length a.tables.notes.items = w.len.ensures ∙ n.ok.0 ∙ ap length c.reserve.ensures.items in
           subst (λ x. IsKept (record x { tables = record x.tables { notes = c.push_reserved.new.self } })) (sym w.self-inside-is) (
-          kept_pushed a b e c.self.invariant (record { config = refl; alerts = λ k h. h; silences = λ k h. h; placements = λ k h. h; timers = λ k h. h; log = λ k h. h }) c.self.invariant.moment (w.push.ensures.closed ∙ w.reserve_entry.ensures.closed)
+          kept_pushed a b e c.self.invariant (record { alerts = λ k h. h; silences = λ k h. h; placements = λ k h. h; timers = λ k h. h; log = λ k h. h }) c.self.invariant.moment (w.push.ensures.closed ∙ w.reserve_entry.ensures.closed)
           (pushed ∙ ap (λ es. es ++ e ∷ []) w.reserve_entry.ensures.current) tt
           (by_place (NewMarkAt (OfNotes w.len.result) a.tables b.tables) (λ x h. h) (λ x h. h) (λ k v h. h) (λ k v h. h) (λ k v h. h) (λ k v h. h) (λ k v h. h) (λ x h. refl))
           (λ _. notes_entered-last a.journal.current w.len.result (length b.tables.notes.items) (subst (λ k. k ≤ length b.tables.notes.items) (sym count) (more_notes a.tables.notes.items b.tables.notes.items notification all))))
@@ -42,7 +42,7 @@ invariant_of-self-2 c =
           let b : Inside = record a { tables = record a.tables { notes = c.push_reserved.new.self } } in
           let all : c.push_reserved.new.self.items ≡ a.tables.notes.items ++ notification ∷ [] = items ∙ ap (λ (x : Inside). x.tables.notes.items ++ notification ∷ []) w.self-inside-is ∙ ap (λ xs. xs ++ notification ∷ []) c.reserve.ensures.items in
           subst (λ x. IsKept (record x { tables = record x.tables { notes = c.push_reserved.new.self } })) (sym w.self-inside-is) (
-          kept_still a b c.self.invariant (record { config = refl; alerts = λ k h. h; silences = λ k h. h; placements = λ k h. h; timers = λ k h. h; log = λ k h. h }) c.self.invariant.moment refl refl (λ place h. h) (more_notes a.tables.notes.items b.tables.notes.items notification all))
+          kept_still a b c.self.invariant (record { alerts = λ k h. h; silences = λ k h. h; placements = λ k h. h; timers = λ k h. h; log = λ k h. h }) c.self.invariant.moment refl refl (λ place h. h) (more_notes a.tables.notes.items b.tables.notes.items notification all))
     ]
 
 pub returns-clause-kept : goal.returns-clause-kept

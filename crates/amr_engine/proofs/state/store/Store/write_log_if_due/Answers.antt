@@ -9,8 +9,8 @@ use Rattle.amr_engine.specs.State.Logged.{is_due}
 use Rattle.amr_engine.proofs.StateLemmas.Soundness.{found, kept_roomier, kept_put, undone_put}
 use Rattle.amr_engine.proofs.state.store.Store.write_log_if_due.Goals as goal
 
-pub make_room-requires-clause-known : goal.make_room-requires-clause-known
-make_room-requires-clause-known c =
+pub make_room-requires : goal.make_room-requires
+make_room-requires c =
     found _ _ (ap (number_of log_key_cmp c.self.inside.tables.log) c.in_ok-clone.ensures.cases ∙ sym c.look_up_number-number.ensures.number)
 
 pub invariant_of-self : goal.invariant_of-self

@@ -8,20 +8,23 @@ use Rattle.amr_tables.specs.Numbered.{Numbered, number_of, is_entered, EntersAt}
 use Rattle.amr_engine.specs.declared.state.change.Change.TheVariants.{OfLog}
 use Rattle.amr_engine.specs.declared.state.tables.Tables.{Tables}
 use Rattle.amr_config.specs.RouteLabels.{route_labels_cmp, route_labels_cmp_total}
-use Rattle.amr_engine.specs.State.State.{member_on_route, log_key_cmp, log_key_cmp_total}
+use Rattle.amr_engine.specs.State.State.{log_key_cmp, log_key_cmp_total}
 use Rattle.amr_engine.specs.State.Records.{after_change}
 use Rattle.amr_engine.specs.State.Fitting.{is_roster}
 use Rattle.amr_engine.specs.State.Stored.{shown_by, change_back, with_roster, MorePlaces, IsPlaceOf, is_marked_at}
 use Rattle.amr_engine.proofs.state.tables.Tables.displace.Goals as goal
 
 pub swap_at-requires : goal.swap_at-requires
-swap_at-requires c = (c.in-OfAlert.field-0, subst (λ e. IsPlaceOf c.args.self.now e c.args.number) c.in-OfAlert.is c.requires.number)
+swap_at-requires c = (c.in-OfAlert.field-0, subst (λ e. IsPlaceOf c.args.self.now e c.args.number) c.in-OfAlert.is c.requires)
+
+pub swap_member-requires : goal.swap_member-requires
+swap_member-requires c = (c.in-OfMember.field-0, subst (λ e. IsPlaceOf c.args.self.now e c.args.number) c.in-OfMember.is c.requires)
 
 pub swap_timer-requires : goal.swap_timer-requires
-swap_timer-requires c = (c.in-OfTimer.field-0, subst (λ e. IsPlaceOf c.args.self.now e c.args.number) c.in-OfTimer.is c.requires.number)
+swap_timer-requires c = (c.in-OfTimer.field-0, subst (λ e. IsPlaceOf c.args.self.now e c.args.number) c.in-OfTimer.is c.requires)
 
 pub swap_at-requires-in-OfLog : goal.swap_at-requires-in-OfLog
-swap_at-requires-in-OfLog c = (c.in-OfLog.field-0, subst (λ e. IsPlaceOf c.args.self.now e c.args.number) c.in-OfLog.is c.requires.number)
+swap_at-requires-in-OfLog c = (c.in-OfLog.field-0, subst (λ e. IsPlaceOf c.args.self.now e c.args.number) c.in-OfLog.is c.requires)
 
 -- the place of a key whose number was entered is marked
 marked_now : {K V : Type 0} (R : K → K → Ordering) → IsTotalOrder R → (old changed : Numbered K V) (n : ℕ) (key : K) → EntersAt R old n changed → number_of R old key ≡ Some n → is_entered R changed key ≡ true
@@ -36,53 +39,52 @@ returns-in-OfAlert-clause-marked c =
     let after : Tables = record c.args.self.now { alerts = c.swap_at.new.self } in
     subst (λ e. is_marked_at after e ≡ not (is_roster e)) (sym c.in-OfAlert.is)
     (marked_now label_set_cmp label_set_cmp_total c.args.self.now.alerts c.swap_at.new.self c.args.number c.in-OfAlert.field-0 c.swap_at.ensures.entered
-    (subst (λ e. IsPlaceOf c.args.self.now e c.args.number) c.in-OfAlert.is c.requires.number))
+    (subst (λ e. IsPlaceOf c.args.self.now e c.args.number) c.in-OfAlert.is c.requires))
 
 pub returns-in-OfMember-clause-marked : goal.returns-in-OfMember-clause-marked
 returns-in-OfMember-clause-marked c =
     let after : Tables = record c.args.self.now { roster = c.swap_member.new.self } in
     subst (λ e. is_marked_at after e ≡ not (is_roster e)) (sym c.in-OfMember.is)
-    (ap (λ b. after.is_roster_entered || b) (marked_now route_labels_cmp route_labels_cmp_total c.args.self.now.roster.placements c.swap_member.new.self.placements c.args.number (member_on_route c.in-OfMember.member)
-    c.swap_member.ensures.entered (subst (λ e. IsPlaceOf c.args.self.now e c.args.number) c.in-OfMember.is c.requires.number).0) ∙ or_true after.is_roster_entered)
+    (ap (λ b. after.is_roster_entered || b) (marked_now route_labels_cmp route_labels_cmp_total c.args.self.now.roster.placements c.swap_member.new.self.placements c.args.number c.in-OfMember.field-0
+    c.swap_member.ensures.entered (subst (λ e. IsPlaceOf c.args.self.now e c.args.number) c.in-OfMember.is c.requires)) ∙ or_true after.is_roster_entered)
 
 pub returns-in-OfTimer-clause-marked : goal.returns-in-OfTimer-clause-marked
 returns-in-OfTimer-clause-marked c =
     let after : Tables = record c.args.self.now { roster = c.swap_timer.new.self } in
     subst (λ e. is_marked_at after e ≡ not (is_roster e)) (sym c.in-OfTimer.is)
     (ap (λ b. after.is_roster_entered || b) (marked_now route_labels_cmp route_labels_cmp_total c.args.self.now.roster.timers c.swap_timer.new.self.timers c.args.number c.in-OfTimer.field-0 c.swap_timer.ensures.entered
-    (subst (λ e. IsPlaceOf c.args.self.now e c.args.number) c.in-OfTimer.is c.requires.number)) ∙ or_true after.is_roster_entered)
+    (subst (λ e. IsPlaceOf c.args.self.now e c.args.number) c.in-OfTimer.is c.requires)) ∙ or_true after.is_roster_entered)
 
 pub returns-in-OfLog-clause-marked : goal.returns-in-OfLog-clause-marked
 returns-in-OfLog-clause-marked c =
     let after : Tables = record c.args.self.now { log = c.swap_at-in-OfLog.new.self } in
     subst (λ e. is_marked_at after e ≡ not (is_roster e)) (sym c.in-OfLog.is)
     (marked_now log_key_cmp log_key_cmp_total c.args.self.now.log c.swap_at-in-OfLog.new.self c.args.number c.in-OfLog.field-0 c.swap_at-in-OfLog.ensures.entered
-    (subst (λ e. IsPlaceOf c.args.self.now e c.args.number) c.in-OfLog.is c.requires.number))
+    (subst (λ e. IsPlaceOf c.args.self.now e c.args.number) c.in-OfLog.is c.requires))
 
 pub returns-in-OfLog-clause-state : goal.returns-in-OfLog-clause-state
 returns-in-OfLog-clause-state c =
     let after : Tables = record c.args.self.now { log = c.swap_at-in-OfLog.new.self } in
     subst (λ e. shown_by after ≡ after_change (shown_by c.args.self.now) e) (sym c.in-OfLog.is)
     (λ i. record (shown_by c.args.self.now) {
-      log = c.swap_at-in-OfLog.ensures.shown c.in-OfLog.field-0 (subst (λ e. IsPlaceOf c.args.self.now e c.args.number) c.in-OfLog.is c.requires.number) i;
+      log = c.swap_at-in-OfLog.ensures.shown c.in-OfLog.field-0 (subst (λ e. IsPlaceOf c.args.self.now e c.args.number) c.in-OfLog.is c.requires) i;
     })
 
 pub returns-in-OfLog-clause-back : goal.returns-in-OfLog-clause-back
 returns-in-OfLog-clause-back c =
     subst (λ e. OfLog c.in-OfLog.field-0 c.swap_at-in-OfLog.new.value ≡ change_back c.args.self.now e) (sym c.in-OfLog.is)
     (ap (λ value. OfLog c.in-OfLog.field-0 value)
-    (c.swap_at-in-OfLog.ensures.former c.in-OfLog.field-0 (subst (λ e. IsPlaceOf c.args.self.now e c.args.number) c.in-OfLog.is c.requires.number)))
+    (c.swap_at-in-OfLog.ensures.former c.in-OfLog.field-0 (subst (λ e. IsPlaceOf c.args.self.now e c.args.number) c.in-OfLog.is c.requires)))
 
 pub returns-in-OfLog-clause-was_marked : goal.returns-in-OfLog-clause-was_marked
 returns-in-OfLog-clause-was_marked c =
     subst (λ e. c.swap_at-in-OfLog.result ≡ is_marked_at c.args.self.now e) (sym c.in-OfLog.is)
-    (c.swap_at-in-OfLog.ensures.was_entered c.in-OfLog.field-0 (subst (λ e. IsPlaceOf c.args.self.now e c.args.number) c.in-OfLog.is c.requires.number))
+    (c.swap_at-in-OfLog.ensures.was_entered c.in-OfLog.field-0 (subst (λ e. IsPlaceOf c.args.self.now e c.args.number) c.in-OfLog.is c.requires))
 
 pub returns-in-OfLog-clause-places : goal.returns-in-OfLog-clause-places
 returns-in-OfLog-clause-places c =
     let after : Tables = record c.args.self.now { log = c.swap_at-in-OfLog.new.self } in
     subst (λ e. MorePlaces (with_roster c.args.self.now e) after) (sym c.in-OfLog.is) (record {
-      config = refl;
       alerts = λ k h. h;
       silences = λ k h. h;
       placements = λ k h. h;

@@ -2,15 +2,13 @@ use Rattle.std.proofs.Common.{sym, ap, subst, ◌∙◌}
 use Rattle.std.specs.Ordering.{nat_cmp}
 use Rattle.amr_tables.specs.Numbered.{number_of}
 use Rattle.amr_config.specs.RouteLabels.{route_labels_cmp}
-use Rattle.amr_engine.specs.State.State.{member_on_route}
-use Rattle.amr_engine.specs.State.Stored.{IsSound, IsPlaceOf}
+use Rattle.amr_engine.specs.State.Stored.{IsPlaceOf}
 use Rattle.amr_engine.proofs.state.tables.Tables.find.Goals as goal
 
 pub returns-in-OfMember : goal.returns-in-OfMember
 returns-in-OfMember c =
-    let sound = subst (IsSound c.args.self.now) c.in-OfMember.is c.requires in
     subst (λ e. IsPlaceOf c.args.self.now e c.number_in-in-OfMember.result) (sym c.in-OfMember.is)
-    (ap (λ t. number_of route_labels_cmp t (member_on_route c.in-OfMember.member)) (sym c.placements.ensures) ∙ c.number_in-in-OfMember.ensures, sound.1)
+    (ap (λ t. number_of route_labels_cmp t c.in-OfMember.member) (sym c.placements.ensures) ∙ c.number_in-in-OfMember.ensures)
 
 pub returns-in-OfTimer : goal.returns-in-OfTimer
 returns-in-OfTimer c =
