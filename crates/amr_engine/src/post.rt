@@ -60,7 +60,7 @@ fn put(
 
 /// Stores the valid alerts of a post, in order. Returns the positions of the others, from 1. If it has
 /// more alerts than there are groups that may be cached as quiet, it forgets all of these at once,
-/// and so needn't look for the groups of each alert.
+/// so that looking there for the groups of each alert takes next to no time.
 pub(crate) fn put_all(
     store: &mut Store,
     quiet_groups: &mut QuietGroups,

@@ -7,6 +7,7 @@ mod alert_table;
 mod change;
 mod due;
 mod entering;
+mod group_timers;
 mod inserting;
 mod keys;
 mod members;

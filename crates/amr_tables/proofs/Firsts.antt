@@ -1,7 +1,8 @@
 -- The first of a queue and the first of the rest: the earlier is the earliest of all.
-use Rattle.std.proofs.Common.{◌≡◌, ◌≢◌, inl, inr, ℕ, zero, suc, ◌<◌, ◌≤◌, Bool, true, false, not, List, [], ◌∷◌, ◌++◌, take, replicate, Option, Some, None, length, refl, sym, ap, subst, ◌∙◌, arith}
-use Rattle.std.specs.Prelude.{◌⊎◌, slice_get, slice_set, option_map, if◌then◌else◌}
+use Rattle.std.proofs.Common.{◌≡◌, ◌≢◌, inl, inr, ℕ, zero, suc, ◌<◌, true, false, not, List, [], ◌∷◌, Option, Some, None, length, refl, sym, ap, subst, ◌∙◌, arith}
+use Rattle.std.specs.Prelude.{◌⊎◌, ◌==◌, slice_get, slice_set, option_map, if◌then◌else◌}
 use Rattle.std.proofs.lemmas.Bool.{cases_eq, not-true, not-false}
+use Rattle.std.proofs.lemmas.Bool.Decides.{nat_tests}
 use Rattle.std.proofs.lemmas.Option.{none-some}
 use Rattle.std.specs.declared.cmp.Ordering.{Ordering}
 use Rattle.std.specs.Ordering.{nat_cmp, ordering_then, is_gt}
@@ -10,7 +11,7 @@ use Rattle.amr_tables.specs.declared.earliest.NumberedMoment.{NumberedMoment}
 use Rattle.amr_tables.specs.Places.{value_at, values_of}
 use Rattle.amr_tables.specs.Tournament.{Tournament, timer_cmp, winner_at, first_of, IsTournament}
 use Rattle.amr_tables.specs.Tournament as tournament
-use Rattle.amr_tables.specs.Earliest.{Earliest, moment_at, StandsIn, Stands, IsHeld, IsCurrent, IsFrontCurrent, IsWinnerCurrent, is_in_order, IsQueue, AreKept, IsOrdered, IsEarliest, AgreeOn}
+use Rattle.amr_tables.specs.Earliest.{Earliest, changed_back, StandsIn, Stands, IsHeld, IsCurrent, AreAmong, IsFrontCurrent, is_in_order, IsQueue, AreKept, IsOrdered, IsEarliest, AgreeOn}
 use Rattle.amr_tables.proofs.Placing.{value_set, value_apart}
 use Rattle.amr_tables.proofs.Playing.{timer_total, not_after_then, not_after_back, itself, not_before, winner_first, none_earlier, tournament_agrees}
 
@@ -51,17 +52,17 @@ module _ (rank : ℕ → ℕ → Ordering) where
         not_after_then (timer_total order) (Some first.moment, first.number) (Some x.moment, x.number) (Some s.moment, s.number)
         (not-true _ is.0) (queue_least x queue is.1 s h)
 
-    module _ (e : Earliest) (ordered : IsOrdered rank e) where
+    module _ (moments : ℕ → Option ℕ) (e : Earliest) (ordered : IsOrdered rank moments e) where
       -- ---- the front of the queue
 
-      front_least : (v : NumberedMoment) → slice_get e.queue 0 ≡ Some v → IsCurrent e v × ((s : NumberedMoment) → StandsIn e.queue s → NotAfter v s)
+      front_least : (v : NumberedMoment) → slice_get e.queue 0 ≡ Some v → IsCurrent moments v × ((s : NumberedMoment) → StandsIn e.queue s → NotAfter v s)
       front_least v is = by e.queue ordered.kept.queue ordered.front is
         where
-          by : (queue : List NumberedMoment) → IsQueue rank queue → IsFrontCurrent e queue → slice_get queue 0 ≡ Some v → IsCurrent e v × ((s : NumberedMoment) → StandsIn queue s → NotAfter v s)
+          by : (queue : List NumberedMoment) → IsQueue rank queue → IsFrontCurrent moments queue → slice_get queue 0 ≡ Some v → IsCurrent moments v × ((s : NumberedMoment) → StandsIn queue s → NotAfter v s)
           by [] sorted front is = absurd (none-some v is)
           by (x ∷ queue) sorted front is =
               let same : x ≡ v = cc in (
-                subst (IsCurrent e) same front,
+                subst (IsCurrent moments) same front,
                 λ s h. subst (λ y. NotAfter y s) same (queue_least x queue sorted s h),
               )
 
@@ -75,7 +76,7 @@ module _ (rank : ℕ → ℕ → Ordering) where
       -- ---- the winner of the rest
 
       winner_least : (v : NumberedMoment) → first_of e.rest ≡ Some v.number → tournament.moment_at e.rest v.number ≡ Some v.moment
-          → IsCurrent e v × ((s : NumberedMoment) → tournament.moment_at e.rest s.number ≡ Some s.moment → NotAfter v s)
+          → IsCurrent moments v × ((s : NumberedMoment) → tournament.moment_at e.rest s.number ≡ Some s.moment → NotAfter v s)
       winner_least v wins at =
           let is = (first_has e.rest v.number wins).1.1 in (
             sym (ordered.winner v.number wins) ∙ at,
@@ -88,29 +89,29 @@ module _ (rank : ℕ → ℕ → Ordering) where
 
       -- ---- the earliest of all
 
-      earliest_is : (v : NumberedMoment) → IsCurrent e v → ((s : NumberedMoment) → Stands e s → NotAfter v s) → IsEarliest rank e v.number
+      earliest_is : (v : NumberedMoment) → IsCurrent moments v → ((s : NumberedMoment) → Stands e s → NotAfter v s) → IsEarliest rank moments v.number
       earliest_is v current least =
           (v.moment, current, λ j x at. not_before v.moment x (rank v.number j) (least (record { moment = x; number = j }) (ordered.kept.stands (record { moment = x; number = j }) at)))
 
-      pub none_at_all : slice_get e.queue 0 ≡ None → first_of e.rest ≡ None → (n : ℕ) → moment_at e n ≡ None
-      none_at_all front winner n = by (moment_at e n) refl
+      pub none_at_all : slice_get e.queue 0 ≡ None → first_of e.rest ≡ None → (n : ℕ) → moments n ≡ None
+      none_at_all front winner n = by (moments n) refl
         where
           none_stands : (m : ℕ) → Stands e (record { moment = m; number = n }) → ⊥
           none_stands m (inl h) = no_front front (record { moment = m; number = n }) h
           none_stands m (inr h) = no_winner winner (record { moment = m; number = n }) h
 
-          by : (x : Option ℕ) → moment_at e n ≡ x → x ≡ None
+          by : (x : Option ℕ) → moments n ≡ x → x ≡ None
           by None at = refl
           by (Some m) at = absurd (none_stands m (ordered.kept.stands (record { moment = m; number = n }) at))
 
-      pub front_alone : (v : NumberedMoment) → slice_get e.queue 0 ≡ Some v → first_of e.rest ≡ None → IsEarliest rank e v.number
+      pub front_alone : (v : NumberedMoment) → slice_get e.queue 0 ≡ Some v → first_of e.rest ≡ None → IsEarliest rank moments v.number
       front_alone v front winner = let first = front_least v front in earliest_is v first.0 (λ s stands. by s first.1 stands)
         where
           by : (s : NumberedMoment) → ((s : NumberedMoment) → StandsIn e.queue s → NotAfter v s) → Stands e s → NotAfter v s
           by s least (inl h) = least s h
           by s least (inr h) = absurd (no_winner winner s h)
 
-      pub winner_alone : (v : NumberedMoment) → slice_get e.queue 0 ≡ None → first_of e.rest ≡ Some v.number → tournament.moment_at e.rest v.number ≡ Some v.moment → IsEarliest rank e v.number
+      pub winner_alone : (v : NumberedMoment) → slice_get e.queue 0 ≡ None → first_of e.rest ≡ Some v.number → tournament.moment_at e.rest v.number ≡ Some v.moment → IsEarliest rank moments v.number
       winner_alone v front wins at = let first = winner_least v wins at in earliest_is v first.0 (λ s stands. by s first.1 stands)
         where
           by : (s : NumberedMoment) → ((s : NumberedMoment) → tournament.moment_at e.rest s.number ≡ Some s.moment → NotAfter v s) → Stands e s → NotAfter v s
@@ -121,14 +122,14 @@ module _ (rank : ℕ → ℕ → Ordering) where
         through : (a b s : NumberedMoment) → NotAfter a b → NotAfter b s → NotAfter a s
         through a b s = not_after_then (timer_total order) (Some a.moment, a.number) (Some b.moment, b.number) (Some s.moment, s.number)
 
-        pub front_first : is_in_order rank f v ≡ true → IsEarliest rank e f.number
+        pub front_first : is_in_order rank f v ≡ true → IsEarliest rank moments f.number
         front_first before = earliest_is f (front_least f front).0 (λ s stands. by s stands)
           where
             by : (s : NumberedMoment) → Stands e s → NotAfter f s
             by s (inl h) = (front_least f front).1 s h
             by s (inr h) = through f v s (not-true _ before) ((winner_least v wins at).1 s h)
 
-        pub winner_before : is_in_order rank f v ≡ false → IsEarliest rank e v.number
+        pub winner_before : is_in_order rank f v ≡ false → IsEarliest rank moments v.number
         winner_before after = earliest_is v (winner_least v wins at).0 (λ s stands. by s stands)
           where
             earlier : NotAfter v f
@@ -168,79 +169,71 @@ module _ (e : Earliest) (n : ℕ) (wins : first_of e.rest ≡ Some n) (next : To
       by (inl same) = absurd (none-some m (sym (sym here ∙ ap (value_at (slice_set e.rest.moments n None)) same ∙ value_set e.rest.moments n None (first_within e.rest n wins))))
       by (inr apart) = (m, inr (sym (value_apart e.rest.moments n k None apart) ∙ here))
 
-  pub winner_leaves : (rank : ℕ → ℕ → Ordering) → tournament.moment_at e.rest n ≢ moment_at e n → IsTournament rank next → AreKept rank e → AreKept rank without
-  winner_leaves rank outdated played kept = record {
+  pub winner_leaves : (rank : ℕ → ℕ → Ordering) (moments : ℕ → Option ℕ) → tournament.moment_at e.rest n ≢ moments n → IsTournament rank next → AreKept rank moments e → AreKept rank moments without
+  winner_leaves rank moments outdated played kept = record {
     queue = kept.queue;
     rest = played;
     stands = λ s at. by s at (kept.stands s at);
   }
     where
-      by : (s : NumberedMoment) → IsCurrent e s → Stands e s → Stands without s
+      by : (s : NumberedMoment) → IsCurrent moments s → Stands e s → Stands without s
       by s at (inl h) = inl h
       by s at (inr h) = from (cases_eq s.number n)
         where
           from : (s.number ≡ n) ⊎ (s.number ≢ n) → Stands without s
-          from (inl same) = absurd (outdated (ap (tournament.moment_at e.rest) (sym same) ∙ h ∙ sym at ∙ ap (moment_at e) same))
+          from (inl same) = absurd (outdated (ap (tournament.moment_at e.rest) (sym same) ∙ h ∙ sym at ∙ ap moments same))
           from (inr apart) = inr (ap (λ l. value_at l s.number) set ∙ value_apart e.rest.moments n s.number None apart ∙ h)
 
--- ---- a number loses its moment, and gets another
+-- ---- a number gets another moment
 
-pub kept_without : (rank : ℕ → ℕ → Ordering) (e : Earliest) (n : ℕ) → n < length e.moments → AreKept rank e → AreKept rank (record e { moments = slice_set e.moments n None })
-kept_without rank e n room kept = record {
+module _ (moments : ℕ → Option ℕ) (n : ℕ) where
+  -- the other numbers keep theirs
+  pub apart_from : (former : Option ℕ) (k : ℕ) → k ≢ n → changed_back moments n former k ≡ moments k
+  apart_from former k apart =
+      elim (k == n) as (λ b. (k == n) ≡ b → (if b then former else moments k) ≡ moments k) [
+        | true ↦ λ t. let same : k ≡ n = grind (arith, nat_tests) in absurd (apart same)
+        | false ↦ λ f. refl
+      ] refl
+
+  -- a moment that it has already changes nothing
+  pub changed_nothing : (former : Option ℕ) → moments n ≡ former → changed_back moments n former ≡ moments
+  changed_nothing former is = λ i k. each k i
+    where
+      each : (k : ℕ) → changed_back moments n former k ≡ moments k
+      each k = by (cases_eq k n)
+        where
+          by : (k ≡ n) ⊎ (k ≢ n) → changed_back moments n former k ≡ moments k
+          by (inl same) =
+              let here : (k == n) ≡ true = grind (arith, nat_tests) in
+              ap (λ b. if b then former else moments k) here ∙ sym is ∙ ap moments (sym same)
+          by (inr apart) = apart_from former k apart
+
+  -- without its moment, the others are left
+  pub less_than : (former : Option ℕ) → AreAmong (changed_back moments n None) (changed_back moments n former)
+  less_than former s =
+      elim (s.number == n) as (λ b. (if b then None else moments s.number) ≡ Some s.moment → (if b then former else moments s.number) ≡ Some s.moment) [
+        | true ↦ λ at. absurd (none-some s.moment at)
+        | false ↦ λ at. at
+      ]
+
+  pub less : AreAmong (changed_back moments n None) moments
+  less s =
+      elim (s.number == n) as (λ b. (if b then None else moments s.number) ≡ Some s.moment → moments s.number ≡ Some s.moment) [
+        | true ↦ λ at. absurd (none-some s.moment at)
+        | false ↦ λ at. at
+      ]
+
+pub kept_among : (rank : ℕ → ℕ → Ordering) (few many : ℕ → Option ℕ) (e : Earliest) → AreAmong few many → AreKept rank many e → AreKept rank few e
+kept_among rank few many e among kept = record {
   queue = kept.queue;
   rest = kept.rest;
-  stands = λ s at. kept.stands s (by s at (cases_eq s.number n));
+  stands = λ s at. kept.stands s (among s at);
 }
-  where
-    by : (s : NumberedMoment) → value_at (slice_set e.moments n None) s.number ≡ Some s.moment → (s.number ≡ n) ⊎ (s.number ≢ n) → IsCurrent e s
-    by s at (inl same) = absurd (none-some s.moment (sym (sym at ∙ ap (value_at (slice_set e.moments n None)) same ∙ value_set e.moments n None room)))
-    by s at (inr apart) = sym (value_apart e.moments n s.number None apart) ∙ at
 
 -- a shorter queue holds no other number
 pub held_shorter : (e u : Earliest) → u.rest ≡ e.rest → ((s : NumberedMoment) → StandsIn u.queue s → StandsIn e.queue s) → (n : ℕ) → IsHeld u n → IsHeld e n
 held_shorter e u rest queue n (m, inl h) = (m, inl (queue (record { moment = m; number = n }) h))
 held_shorter e u rest queue n (m, inr h) = (m, inr (ap (λ (t : Tournament). tournament.moment_at t n) (sym rest) ∙ h))
-
--- ---- more numbers, without moments
-
-value_none : (r k : ℕ) → value_at {V = ℕ} (replicate r None) k ≡ None
-value_none zero k = refl
-value_none (suc r) zero = refl
-value_none (suc r) (suc k) = value_none r k
-
-value_padded : (moments : List (Option ℕ)) (n r k : ℕ) → length moments ≤ n → value_at (take n moments ++ replicate r None) k ≡ value_at moments k
-value_padded [] zero r k h = value_none r k
-value_padded [] (suc n) r k h = value_none r k
-value_padded (x ∷ moments) zero r k h = absurd (omega (arith, h))
-value_padded (x ∷ moments) (suc n) r zero h = refl
-value_padded (x ∷ moments) (suc n) r (suc k) h = value_padded moments n r k (omega (arith, h))
-
-pub value_resized : (ok : Bool) (moments : List (Option ℕ)) (n r k : ℕ) → length moments ≤ n → value_at (if ok then take n moments ++ replicate r None else moments) k ≡ value_at moments k
-value_resized true moments n r k h = value_padded moments n r k h
-value_resized false moments n r k h = refl
-
--- the front is the same in a table with the same moments and the same queue
-pub front_same : (e u : Earliest) → u.moments ≡ e.moments → u.queue ≡ e.queue → IsFrontCurrent e e.queue → IsFrontCurrent u u.queue
-front_same e u moments queue front = subst (IsFrontCurrent u) (sym queue) (by e.queue front)
-  where
-    by : (l : List NumberedMoment) → IsFrontCurrent e l → IsFrontCurrent u l
-    by [] h = tt
-    by (s ∷ l) h = ap (λ ms. value_at ms s.number) moments ∙ h
-
-module _ (rank : ℕ → ℕ → Ordering) (e : Earliest) (moments : List (Option ℕ)) (same : (n : ℕ) → value_at moments n ≡ moment_at e n) where
-  abbrev padded : Earliest
-  padded = record e { moments = moments }
-
-  pub ordered_padded : AreKept rank e → IsFrontCurrent e e.queue → IsWinnerCurrent e → IsOrdered rank padded
-  ordered_padded kept front winner = record {
-    kept = record { queue = kept.queue; rest = kept.rest; stands = λ s at. kept.stands s (sym (same s.number) ∙ at) };
-    front = by e.queue front;
-    winner = λ n wins. winner n wins ∙ sym (same n);
-  }
-    where
-      by : (queue : List NumberedMoment) → IsFrontCurrent e queue → IsFrontCurrent padded queue
-      by [] h = tt
-      by (s ∷ queue) h = same s.number ∙ h
 
 -- ---- the same moments in a longer tournament
 
@@ -260,8 +253,8 @@ module _ (rank other : ℕ → ℕ → Ordering) (e : Earliest) (agree : AgreeOn
   queue_agrees (s ∷ x ∷ queue) all is = (agrees s x (all s (inl refl)) (all x (inr (inl refl))) ∙ is.0, queue_agrees (x ∷ queue) (λ y h. all y (inr h)) is.1)
 
   -- all stands under another order that agrees on all numbers that are held
-  pub ordered_agrees : IsOrdered rank e → IsOrdered other e
-  ordered_agrees is = record {
+  pub ordered_agrees : (moments : ℕ → Option ℕ) → IsOrdered rank moments e → IsOrdered other moments e
+  ordered_agrees moments is = record {
     kept = record {
       queue = queue_agrees e.queue (λ s h. inl h) is.kept.queue;
       rest = tournament_agrees rank other e.rest (λ a b x y p q. agree a b (x, inr p) (y, inr q)) is.kept.rest;

@@ -1,6 +1,6 @@
 -- The key with a number.
-use Rattle.std.proofs.Common.{◌≡◌, ℕ, true, false, cond, T, List, [], ◌∷◌, Some, refl, ap, ◌∙◌, arith}
-use Rattle.std.specs.Prelude.{◌==◌, if◌then◌else◌}
+use Rattle.std.proofs.Common.{◌≡◌, ℕ, true, false, cond, T, List, [], ◌∷◌, Option, None, Some, refl, sym, ap, ◌∙◌, arith}
+use Rattle.std.specs.Prelude.{◌==◌, if◌then◌else◌, option_and_then}
 use Rattle.std.specs.List.{AllByRecursion}
 use Rattle.std.specs.declared.cmp.Ordering.{Ordering}
 use Rattle.std.specs.Ordering.{eq_by_cmp}
@@ -8,9 +8,12 @@ use Rattle.std.specs.Cmp.{IsTotalOrder}
 use Rattle.std.specs.FinMap.{find, IsAntisymmetric}
 use Rattle.std.proofs.lemmas.Bool.Decides.{nat_tests}
 use Rattle.std.proofs.lemmas.Map.Views.{tells_apart}
-use Rattle.std.proofs.lemmas.Option.{same_Some}
+use Rattle.std.proofs.lemmas.Option.{none-some, same_Some}
+use Rattle.amr_labels.specs.Map.{get}
 use Rattle.amr_labels.proofs.Pairs.{own_values}
-use Rattle.amr_tables.specs.Numbered.{Numbered, IsNumbering, number_of, key_with, key_at}
+use Rattle.amr_tables.specs.Places.{value_at}
+use Rattle.amr_tables.specs.Numbered.{Numbered, IsNumbering, map_of, number_of, key_with, key_at}
+use Rattle.amr_tables.proofs.Numbering.{get-shown}
 
 holds : (b : _) → T b → b ≡ true
 holds true p = refl
@@ -40,3 +43,19 @@ module _ {K V : Type 0} {R : K → K → Ordering} (o : IsTotalOrder R) (exact :
   -- the key of a number is the one that has it
   pub key_at_number : (t : Numbered K V) → IsNumbering R t → (k : K) (n : ℕ) → number_of R t k ≡ Some n → key_at t n ≡ Some k
   key_at_number t is k n at = only o t.numbers k n (alone_among t is k n at t.numbers (own_values o t.numbers is.sorted)) at
+
+  -- no other key has its number
+  pub one_key : (t : Numbered K V) → IsNumbering R t → (a b : K) (n : ℕ) → number_of R t a ≡ Some n → number_of R t b ≡ Some n → a ≡ b
+  one_key t is a b n e f = tells_apart exact a b (holds _ (is.apart b a n f e))
+
+  -- a key's value is that at its number
+  pub value_at_number : (t : Numbered K V) → IsNumbering R t → (key : K) (n : ℕ) → number_of R t key ≡ Some n → get (map_of R t) key ≡ value_at t.cells n
+  value_at_number t is key n at = get-shown R o t key is ∙ ap (option_and_then (value_at t.cells)) at
+
+  -- a key with a value has a number
+  pub number_of_value : (t : Numbered K V) → IsNumbering R t → (key : K) (value : V) → get (map_of R t) key ≡ Some value → (n : ℕ) × (number_of R t key ≡ Some n)
+  number_of_value t is key value at = by (number_of R t key) (sym (get-shown R o t key is) ∙ at)
+    where
+      by : (found : Option ℕ) → option_and_then (value_at t.cells) found ≡ Some value → (n : ℕ) × (found ≡ Some n)
+      by None none = absurd (none-some value none)
+      by (Some n) some = (n, refl)

@@ -1,5 +1,5 @@
 -- A queue of moments with their numbers: what it loses and gains at its ends.
-use Rattle.std.proofs.Common.{◌≡◌, ◌≢◌, inl, inr, ℕ, ◌<◌, ◌≤◌, ◌-◌, nat_lt, true, List, [], ◌∷◌, ◌++◌, length, Option, Some, None, is_some, refl, sym, ap, subst, ◌∙◌, suc, arith}
+use Rattle.std.proofs.Common.{◌≡◌, ◌≢◌, inl, inr, ℕ, ◌<◌, ◌-◌, nat_lt, true, List, [], ◌∷◌, ◌++◌, length, Option, Some, None, is_some, refl, sym, ap, subst, ◌∙◌, suc, arith}
 use Rattle.std.specs.Prelude.{◌⊎◌, slice_get, slice_set, slice_index_or, unwrap_or}
 use Rattle.std.specs.List.{last_or}
 use Rattle.std.specs.Option.{option_to_list}
@@ -11,8 +11,9 @@ use Rattle.std.specs.declared.cmp.Ordering.{Ordering}
 use Rattle.amr_tables.specs.declared.earliest.NumberedMoment.{NumberedMoment}
 use Rattle.amr_tables.specs.Places.{value_at}
 use Rattle.amr_tables.specs.Tournament.{Tournament, IsTournament}
-use Rattle.amr_tables.specs.Earliest.{Earliest, StandsIn, Stands, IsHeld, IsCurrent, IsOutdated, are_in_order, IsQueue, AreKept}
+use Rattle.amr_tables.specs.Earliest.{Earliest, changed_back, StandsIn, Stands, IsHeld, IsCurrent, IsOutdated, AreAmong, are_in_order, IsQueue, AreKept}
 use Rattle.amr_tables.proofs.Placing.{value_set, value_apart}
+use Rattle.amr_tables.proofs.Firsts.{apart_from}
 
 -- ---- what stands in a queue
 
@@ -76,86 +77,83 @@ module _ (rank : ℕ → ℕ → Ordering) where
   queue_earlier s [] h is = tt
   queue_earlier s (x ∷ queue) h is = (h, is)
 
-module _ (moments : List (Option ℕ)) (rest : Tournament) where
+module _ (moments : ℕ → Option ℕ) (rest : Tournament) where
   abbrev with_queue : List NumberedMoment → Earliest
-  with_queue queue = record { moments = moments; queue = queue; rest = rest }
+  with_queue queue = record { queue = queue; rest = rest }
 
   -- ---- an end that isn't current leaves
 
-  pub last_leaves : (rank : ℕ → ℕ → Ordering) (queue left : List NumberedMoment) (r : Option NumberedMoment) → queue ≡ left ++ option_to_list r → IsOutdated (with_queue queue) (last_or None queue)
-      → AreKept rank (with_queue queue) → AreKept rank (with_queue left)
-  last_leaves rank queue left None is out kept = by queue left is out kept
-    where
-      by : (queue left : List NumberedMoment) → queue ≡ left ++ [] → IsOutdated (with_queue queue) (last_or None queue) → AreKept rank (with_queue queue) → AreKept rank (with_queue left)
-      by queue left is out kept = subst (λ l. AreKept rank (with_queue l)) (is ∙ append-nil left) kept
-  last_leaves rank queue left (Some s) is out kept =
-      let all : AreKept rank (with_queue (left ++ s ∷ [])) = subst (λ l. AreKept rank (with_queue l)) is kept in
-      let outdated : IsCurrent (with_queue queue) s → ⊥ = subst (IsOutdated (with_queue queue)) (ap (last_or None) is ∙ last_is None left s) out in
+  pub last_leaves : (rank : ℕ → ℕ → Ordering) (fewer : ℕ → Option ℕ) → AreAmong fewer moments → (queue left : List NumberedMoment) (r : Option NumberedMoment) → queue ≡ left ++ option_to_list r → IsOutdated moments (last_or None queue)
+      → AreKept rank fewer (with_queue queue) → AreKept rank fewer (with_queue left)
+  last_leaves rank fewer among queue left None is out kept = subst (λ l. AreKept rank fewer (with_queue l)) (is ∙ append-nil left) kept
+  last_leaves rank fewer among queue left (Some s) is out kept =
+      let all : AreKept rank fewer (with_queue (left ++ s ∷ [])) = subst (λ l. AreKept rank fewer (with_queue l)) is kept in
+      let outdated : IsCurrent moments s → ⊥ = subst (IsOutdated moments) (ap (last_or None) is ∙ last_is None left s) out in
       record {
         queue = queue_init rank left s all.queue;
         rest = all.rest;
         stands = λ x current. by x current outdated (all.stands x current);
       }
     where
-      by : (x : NumberedMoment) → IsCurrent (with_queue left) x → (IsCurrent (with_queue queue) s → ⊥) → Stands (with_queue (left ++ s ∷ [])) x → Stands (with_queue left) x
+      by : (x : NumberedMoment) → IsCurrent fewer x → (IsCurrent moments s → ⊥) → Stands (with_queue (left ++ s ∷ [])) x → Stands (with_queue left) x
       by x current outdated (inr h) = inr h
       by x current outdated (inl h) = from (stands_before left s x h)
         where
           from : (s ≡ x) ⊎ StandsIn left x → Stands (with_queue left) x
-          from (inl same) = absurd (outdated (subst (IsCurrent (with_queue queue)) (sym same) current))
+          from (inl same) = absurd (outdated (subst (IsCurrent moments) (sym same) (among x current)))
           from (inr h) = inl h
 
-  pub first_leaves : (rank : ℕ → ℕ → Ordering) (queue left : List NumberedMoment) (r : Option NumberedMoment) → queue ≡ option_to_list r ++ left → IsOutdated (with_queue queue) (slice_get queue 0)
-      → AreKept rank (with_queue queue) → AreKept rank (with_queue left)
-  first_leaves rank queue left None is out kept = subst (λ l. AreKept rank (with_queue l)) is kept
+  pub first_leaves : (rank : ℕ → ℕ → Ordering) (queue left : List NumberedMoment) (r : Option NumberedMoment) → queue ≡ option_to_list r ++ left → IsOutdated moments (slice_get queue 0)
+      → AreKept rank moments (with_queue queue) → AreKept rank moments (with_queue left)
+  first_leaves rank queue left None is out kept = subst (λ l. AreKept rank moments (with_queue l)) is kept
   first_leaves rank queue left (Some s) is out kept =
-      let all : AreKept rank (with_queue (s ∷ left)) = subst (λ l. AreKept rank (with_queue l)) is kept in
-      let outdated : IsCurrent (with_queue queue) s → ⊥ = subst (λ (l : List NumberedMoment). IsOutdated (with_queue queue) (slice_get l 0)) is out in
+      let all : AreKept rank moments (with_queue (s ∷ left)) = subst (λ l. AreKept rank moments (with_queue l)) is kept in
+      let outdated : IsCurrent moments s → ⊥ = subst (λ (l : List NumberedMoment). IsOutdated moments (slice_get l 0)) is out in
       record {
         queue = queue_tail rank s left all.queue;
         rest = all.rest;
         stands = λ x current. by x current outdated (all.stands x current);
       }
     where
-      by : (x : NumberedMoment) → IsCurrent (with_queue left) x → (IsCurrent (with_queue queue) s → ⊥) → Stands (with_queue (s ∷ left)) x → Stands (with_queue left) x
+      by : (x : NumberedMoment) → IsCurrent moments x → (IsCurrent moments s → ⊥) → Stands (with_queue (s ∷ left)) x → Stands (with_queue left) x
       by x current outdated (inr h) = inr h
-      by x current outdated (inl (inl same)) = absurd (outdated (subst (IsCurrent (with_queue queue)) (sym same) current))
+      by x current outdated (inl (inl same)) = absurd (outdated (subst (IsCurrent moments) (sym same) current))
       by x current outdated (inl (inr h)) = inl h
 
-  pub stood_last : (queue left : List NumberedMoment) (r : Option NumberedMoment) → queue ≡ left ++ option_to_list r → (s : NumberedMoment) → StandsIn left s → StandsIn queue s
-  stood_last queue left None is s h = subst (λ l. StandsIn l s) (sym (is ∙ append-nil left)) h
-  stood_last queue left (Some x) is s h = subst (λ l. StandsIn l s) (sym is) (stands_more left x s h)
+pub stood_last : (queue left : List NumberedMoment) (r : Option NumberedMoment) → queue ≡ left ++ option_to_list r → (s : NumberedMoment) → StandsIn left s → StandsIn queue s
+stood_last queue left None is s h = subst (λ l. StandsIn l s) (sym (is ∙ append-nil left)) h
+stood_last queue left (Some x) is s h = subst (λ l. StandsIn l s) (sym is) (stands_more left x s h)
 
-  pub stood_first : (queue left : List NumberedMoment) (r : Option NumberedMoment) → queue ≡ option_to_list r ++ left → (s : NumberedMoment) → StandsIn left s → StandsIn queue s
-  stood_first queue left None is s h = subst (λ l. StandsIn l s) (sym is) h
-  stood_first queue left (Some x) is s h = subst (λ l. StandsIn l s) (sym is) (inr h)
+pub stood_first : (queue left : List NumberedMoment) (r : Option NumberedMoment) → queue ≡ option_to_list r ++ left → (s : NumberedMoment) → StandsIn left s → StandsIn queue s
+stood_first queue left None is s h = subst (λ l. StandsIn l s) (sym is) h
+stood_first queue left (Some x) is s h = subst (λ l. StandsIn l s) (sym is) (inr h)
 
 -- ---- a moment joins
 
-module _ (moments : List (Option ℕ)) (s : NumberedMoment) (room : s.number < length moments) where
-  abbrev joined : List (Option ℕ)
-  joined = slice_set moments s.number (Some s.moment)
+module _ (moments : ℕ → Option ℕ) (s : NumberedMoment) (now : IsCurrent moments s) where
+  abbrev before : ℕ → Option ℕ
+  before = changed_back moments s.number None
 
-  -- the moment that is current is this one, or was current
-  now_or_before : (x : NumberedMoment) → value_at joined x.number ≡ Some x.moment → (s ≡ x) ⊎ ((x.number ≢ s.number) × (value_at moments x.number ≡ Some x.moment))
+  -- a moment that is current is this one, or was current before
+  now_or_before : (x : NumberedMoment) → IsCurrent moments x → (s ≡ x) ⊎ ((x.number ≢ s.number) × IsCurrent before x)
   now_or_before x at = by (cases_eq x.number s.number)
     where
-      by : (x.number ≡ s.number) ⊎ (x.number ≢ s.number) → (s ≡ x) ⊎ ((x.number ≢ s.number) × (value_at moments x.number ≡ Some x.moment))
+      by : (x.number ≡ s.number) ⊎ (x.number ≢ s.number) → (s ≡ x) ⊎ ((x.number ≢ s.number) × IsCurrent before x)
       by (inl same) =
-          let moment : s.moment ≡ x.moment = same_Some s.moment x.moment (sym (value_set moments s.number (Some s.moment) room) ∙ ap (value_at joined) (sym same) ∙ at) in
+          let moment : s.moment ≡ x.moment = same_Some s.moment x.moment (sym now ∙ ap moments (sym same) ∙ at) in
           inl (λ i. record { moment = moment i; number = sym same i })
-      by (inr apart) = inr (apart, sym (value_apart moments s.number x.number (Some s.moment) apart) ∙ at)
+      by (inr apart) = inr (apart, apart_from moments s.number None x.number apart ∙ at)
 
   module _ (queue : List NumberedMoment) (rest : Tournament) (rank : ℕ → ℕ → Ordering) where
     abbrev was : Earliest
-    was = record { moments = moments; queue = queue; rest = rest }
+    was = record { queue = queue; rest = rest }
 
-    abbrev now : List NumberedMoment → Tournament → Earliest
-    now queue rest = record { moments = joined; queue = queue; rest = rest }
+    abbrev with : List NumberedMoment → Tournament → Earliest
+    with queue rest = record { queue = queue; rest = rest }
 
     -- ---- at the end of the queue
 
-    pub held_last : (n : ℕ) → IsHeld (now (queue ++ s ∷ []) rest) n → IsHeld was n ⊎ (n ≡ s.number)
+    pub held_last : (n : ℕ) → IsHeld (with (queue ++ s ∷ []) rest) n → IsHeld was n ⊎ (n ≡ s.number)
     held_last n (m, inr h) = inl (m, inr h)
     held_last n (m, inl h) = by (stands_before queue s _ h)
       where
@@ -163,45 +161,45 @@ module _ (moments : List (Option ℕ)) (s : NumberedMoment) (room : s.number < l
         by (inl is) = inr (ap (λ (x : NumberedMoment). x.number) (sym is))
         by (inr h) = inl (m, inl h)
 
-    pub kept_last : are_in_order rank (last_or None queue) (Some s) ≡ true → AreKept rank was → AreKept rank (now (queue ++ s ∷ []) rest)
+    pub kept_last : are_in_order rank (last_or None queue) (Some s) ≡ true → AreKept rank before was → AreKept rank moments (with (queue ++ s ∷ []) rest)
     kept_last order kept = record {
       queue = queue_longer rank queue s order kept.queue;
       rest = kept.rest;
       stands = λ x at. by x (now_or_before x at);
     }
       where
-        more : (x : NumberedMoment) → Stands was x → Stands (now (queue ++ s ∷ []) rest) x
+        more : (x : NumberedMoment) → Stands was x → Stands (with (queue ++ s ∷ []) rest) x
         more x (inl h) = inl (stands_more queue s x h)
         more x (inr h) = inr h
 
-        by : (x : NumberedMoment) → (s ≡ x) ⊎ ((x.number ≢ s.number) × (value_at moments x.number ≡ Some x.moment)) → Stands (now (queue ++ s ∷ []) rest) x
+        by : (x : NumberedMoment) → (s ≡ x) ⊎ ((x.number ≢ s.number) × IsCurrent before x) → Stands (with (queue ++ s ∷ []) rest) x
         by x (inl is) = inl (subst (StandsIn (queue ++ s ∷ [])) is (stands_last queue s))
         by x (inr h) = more x (kept.stands x h.1)
 
     -- ---- at the front of the queue
 
-    pub kept_first : are_in_order rank (Some s) (slice_get queue 0) ≡ true → AreKept rank was → AreKept rank (now (s ∷ queue) rest)
+    pub kept_first : are_in_order rank (Some s) (slice_get queue 0) ≡ true → AreKept rank before was → AreKept rank moments (with (s ∷ queue) rest)
     kept_first order kept = record {
       queue = queue_earlier rank s queue order kept.queue;
       rest = kept.rest;
       stands = λ x at. by x (now_or_before x at);
     }
       where
-        more : (x : NumberedMoment) → Stands was x → Stands (now (s ∷ queue) rest) x
+        more : (x : NumberedMoment) → Stands was x → Stands (with (s ∷ queue) rest) x
         more x (inl h) = inl (inr h)
         more x (inr h) = inr h
 
-        by : (x : NumberedMoment) → (s ≡ x) ⊎ ((x.number ≢ s.number) × (value_at moments x.number ≡ Some x.moment)) → Stands (now (s ∷ queue) rest) x
+        by : (x : NumberedMoment) → (s ≡ x) ⊎ ((x.number ≢ s.number) × IsCurrent before x) → Stands (with (s ∷ queue) rest) x
         by x (inl is) = inl (inl is)
         by x (inr h) = more x (kept.stands x h.1)
 
     -- ---- among the rest
 
-    module _ (next : Tournament) (set : next.moments ≡ slice_set rest.moments s.number (Some s.moment)) (within : length moments ≤ length rest.moments) where
+    module _ (next : Tournament) (set : next.moments ≡ slice_set rest.moments s.number (Some s.moment)) (room : s.number < length rest.moments) where
       abbrev at_next : (n : ℕ) → Option ℕ
       at_next n = value_at (slice_set rest.moments s.number (Some s.moment)) n
 
-      pub held_rest : (n : ℕ) → IsHeld (now queue next) n → IsHeld was n ⊎ (n ≡ s.number)
+      pub held_rest : (n : ℕ) → IsHeld (with queue next) n → IsHeld was n ⊎ (n ≡ s.number)
       held_rest n (m, inl h) = inl (m, inl h)
       held_rest n (m, inr h) = by (cases_eq n s.number)
         where
@@ -209,17 +207,17 @@ module _ (moments : List (Option ℕ)) (s : NumberedMoment) (room : s.number < l
           by (inl same) = inr same
           by (inr apart) = inl (m, inr (sym (value_apart rest.moments s.number n (Some s.moment) apart) ∙ ap (λ l. value_at l n) (sym set) ∙ h))
 
-      pub kept_rest : IsTournament rank next → AreKept rank was → AreKept rank (now queue next)
+      pub kept_rest : IsTournament rank next → AreKept rank before was → AreKept rank moments (with queue next)
       kept_rest played kept = record {
         queue = kept.queue;
         rest = played;
         stands = λ x at. by x (now_or_before x at);
       }
         where
-          more : (x : NumberedMoment) → x.number ≢ s.number → Stands was x → Stands (now queue next) x
+          more : (x : NumberedMoment) → x.number ≢ s.number → Stands was x → Stands (with queue next) x
           more x apart (inl h) = inl h
           more x apart (inr h) = inr (ap (λ l. value_at l x.number) set ∙ value_apart rest.moments s.number x.number (Some s.moment) apart ∙ h)
 
-          by : (x : NumberedMoment) → (s ≡ x) ⊎ ((x.number ≢ s.number) × (value_at moments x.number ≡ Some x.moment)) → Stands (now queue next) x
-          by x (inl is) = subst (Stands (now queue next)) is (inr (ap (λ l. value_at l s.number) set ∙ value_set rest.moments s.number (Some s.moment) (omega (arith, room, within))))
+          by : (x : NumberedMoment) → (s ≡ x) ⊎ ((x.number ≢ s.number) × IsCurrent before x) → Stands (with queue next) x
+          by x (inl is) = subst (Stands (with queue next)) is (inr (ap (λ l. value_at l s.number) set ∙ value_set rest.moments s.number (Some s.moment) room))
           by x (inr h) = more x h.0 (kept.stands x h.1)

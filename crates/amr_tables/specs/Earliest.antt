@@ -1,22 +1,20 @@
--- Moments by number, and which of them is the earliest.
-use Rattle.std.specs.Prelude.{◌⊎◌, ◌≡◌, ◌≢◌, ℕ, ◌<◌, Bool, true, not, List, [], ◌∷◌, Option, None, Some}
+-- Which of the moments of numbers is the earliest.
+use Rattle.std.specs.Prelude.{◌⊎◌, ◌≡◌, ◌≢◌, ℕ, ◌<◌, ◌==◌, Bool, true, not, List, [], ◌∷◌, Option, None, Some, length, if◌then◌else◌}
 use Rattle.std.specs.declared.cmp.Ordering.{Ordering}
 use Rattle.std.specs.declared.cmp.Ordering.TheVariants.{Greater}
 use Rattle.std.specs.Ordering.{is_gt}
-use Rattle.amr_tables.specs.Places.{value_at}
 use Rattle.amr_tables.specs.declared.earliest.NumberedMoment.{NumberedMoment}
 use Rattle.amr_tables.specs.Tournament.{Tournament, timer_cmp, first_of, IsTournament}
 use Rattle.amr_tables.specs.Tournament as tournament
 
--- The moment of each number, if it has one. Each such moment stands in the queue, or among the rest.
+-- Each moment that a number has stands in the queue, or among the rest.
 pub record Earliest : Type 0 where
-  pub moments : List (Option ℕ)
   pub queue : List NumberedMoment
   pub rest : Tournament
 
--- the moment of a number, if it has one
-abbrev pub moment_at : Earliest → ℕ → Option ℕ
-moment_at e n = value_at e.moments n
+-- below which number all may have a moment
+abbrev pub room : Earliest → ℕ
+room e = length e.rest.moments
 
 -- a moment of a number stands in a queue
 abbrev pub StandsIn : List NumberedMoment → NumberedMoment → Type 0
@@ -31,23 +29,32 @@ Stands e s = StandsIn e.queue s ⊎ (tournament.moment_at e.rest s.number ≡ So
 abbrev pub IsHeld : Earliest → ℕ → Type 0
 IsHeld e n = (m : ℕ) × Stands e (record { moment = m; number = n })
 
--- the number still has this moment
-abbrev pub IsCurrent : Earliest → NumberedMoment → Type 0
-IsCurrent e s = moment_at e s.number ≡ Some s.moment
+-- the moments as they were before that of a number changed
+abbrev pub changed_back : (ℕ → Option ℕ) → ℕ → Option ℕ → ℕ → Option ℕ
+changed_back moments number former n = if n == number then former else moments n
 
--- there is a moment that the number doesn't have any more
-abbrev pub IsOutdated : Earliest → Option NumberedMoment → Type 0
-IsOutdated e None = ⊥
-IsOutdated e (Some s) = IsCurrent e s → ⊥
+module _ (moments : ℕ → Option ℕ) where
+  -- the number still has this moment
+  abbrev pub IsCurrent : NumberedMoment → Type 0
+  IsCurrent s = moments s.number ≡ Some s.moment
 
--- the first of the queue is current
-abbrev pub IsFrontCurrent : Earliest → List NumberedMoment → Type 0
-IsFrontCurrent e [] = Unit {0}
-IsFrontCurrent e (first ∷ queue) = IsCurrent e first
+  -- there is a moment that the number doesn't have any more
+  abbrev pub IsOutdated : Option NumberedMoment → Type 0
+  IsOutdated None = ⊥
+  IsOutdated (Some s) = IsCurrent s → ⊥
 
--- the earliest of the rest is current
-abbrev pub IsWinnerCurrent : Earliest → Type 0
-IsWinnerCurrent e = (n : ℕ) → first_of e.rest ≡ Some n → tournament.moment_at e.rest n ≡ moment_at e n
+  -- the first of the queue is current
+  abbrev pub IsFrontCurrent : List NumberedMoment → Type 0
+  IsFrontCurrent [] = Unit {0}
+  IsFrontCurrent (first ∷ queue) = IsCurrent first
+
+  -- the earliest of the rest is current
+  abbrev pub IsWinnerCurrent : Tournament → Type 0
+  IsWinnerCurrent rest = (n : ℕ) → first_of rest ≡ Some n → tournament.moment_at rest n ≡ moments n
+
+-- each moment of the first numbers is one of the second
+abbrev pub AreAmong : (ℕ → Option ℕ) → (ℕ → Option ℕ) → Type 0
+AreAmong few many = (s : NumberedMoment) → IsCurrent few s → IsCurrent many s
 
 module _ (rank : ℕ → ℕ → Ordering) where
   -- the first isn't later and, if both are of one moment, isn't put after the second
@@ -65,21 +72,22 @@ module _ (rank : ℕ → ℕ → Ordering) where
   IsQueue (s ∷ []) = Unit {0}
   IsQueue (s ∷ x ∷ queue) = (is_in_order s x ≡ true) × IsQueue (x ∷ queue)
 
-  -- the queue and the rest have all moments, each in its order
-  pub record AreKept (e : Earliest) : Type 0 where
-    pub queue : IsQueue e.queue
-    pub rest : IsTournament rank e.rest
-    pub stands : (s : NumberedMoment) → IsCurrent e s → Stands e s
+  module _ (moments : ℕ → Option ℕ) where
+    -- the queue and the rest have all moments, each in its order
+    pub record AreKept (e : Earliest) : Type 0 where
+      pub queue : IsQueue e.queue
+      pub rest : IsTournament rank e.rest
+      pub stands : (s : NumberedMoment) → IsCurrent moments s → Stands e s
 
-  -- and the first of both are current
-  pub record IsOrdered (e : Earliest) : Type 0 where
-    pub kept : AreKept e
-    pub front : IsFrontCurrent e e.queue
-    pub winner : IsWinnerCurrent e
+    -- and the first of both are current
+    pub record IsOrdered (e : Earliest) : Type 0 where
+      pub kept : AreKept e
+      pub front : IsFrontCurrent moments e.queue
+      pub winner : IsWinnerCurrent moments e.rest
 
-  -- no number has an earlier moment, and of those with the same moment the order puts none before
-  abbrev pub IsEarliest : Earliest → ℕ → Type 0
-  IsEarliest e n = (m : ℕ) × (moment_at e n ≡ Some m) × ((j x : ℕ) → moment_at e j ≡ Some x → (m < x) ⊎ ((m ≡ x) × (rank n j ≢ Greater)))
+    -- no number has an earlier moment, and of those with the same moment the order puts none before
+    abbrev pub IsEarliest : ℕ → Type 0
+    IsEarliest n = (m : ℕ) × (moments n ≡ Some m) × ((j x : ℕ) → moments j ≡ Some x → (m < x) ⊎ ((m ≡ x) × (rank n j ≢ Greater)))
 
 -- the orders agree on all numbers that are held
 abbrev pub AgreeOn : Earliest → (ℕ → ℕ → Ordering) → (ℕ → ℕ → Ordering) → Type 0

@@ -1,15 +1,15 @@
-//! Moments by number, and which of them is the earliest. The pending timers are kept like this, by
-//! the numbers of alerts and groups. All memory is taken before a moment is set, so that undoing an
+//! Which of the moments of numbers is the earliest. The pending timers are found like this, by the
+//! numbers of alerts and groups. All memory is taken before a moment changes, so that undoing an
 //! event takes none.
-ghost use Rattle.std.specs.Prelude.{◌≡◌, ◌≢◌, true, false, ◌<◌, ◌≤◌, ◌⊎◌, ℕ, [], None, Some, length, OnOk, IfSome, IfNone, slice_set, slice_get, option_map};
+ghost use Rattle.std.specs.Prelude.{◌≡◌, ◌≢◌, true, false, ◌<◌, ◌≤◌, ◌⊎◌, ℕ, Option, None, Some, OnOk, IfSome, IfNone, slice_get, option_map};
 ghost use Rattle.std.specs.List.{last_or};
 ghost use Rattle.std.specs.declared.cmp.Ordering.{Ordering};
 ghost use Rattle.std.specs.Cmp.{IsTotalOrder};
 ghost use Rattle.amr_tables.specs.Tournament.{first_of};
 ghost use Rattle.amr_tables.specs.Tournament as tournament;
-ghost use Rattle.amr_tables.specs.Earliest.{moment_at, StandsIn, IsHeld, IsCurrent, IsOutdated, IsFrontCurrent, IsWinnerCurrent, are_in_order, is_in_order, AreKept, IsOrdered, IsEarliest};
+ghost use Rattle.amr_tables.specs.Earliest.{room, changed_back, StandsIn, IsHeld, IsCurrent, IsOutdated, AreAmong, IsFrontCurrent, IsWinnerCurrent, are_in_order, is_in_order, AreKept, IsOrdered, IsEarliest};
 
-use crate::ranking::Ranking;
+use crate::schedule::Schedule;
 use crate::tournament::Tournament;
 use std::alloc::{AllocError, Global};
 use std::cmp::Ordering;
@@ -23,13 +23,12 @@ struct NumberedMoment {
     number: usize,
 }
 
-/// Moments by number, in nanoseconds since 1970; a number may have none. Most groups that are
-/// flushed are flushed again after all others, so moments that come in order stand in a queue,
-/// where setting one takes no search. The others play a tournament. Of a number that got another
-/// moment, the former stays where it is until it is an end of the queue or wins.
+/// Which number of a schedule has the earliest moment. Most groups that are flushed are flushed again
+/// after all others, so moments that come in order stand in a queue, where one more takes no search.
+/// The others play a tournament. Of a number that got another moment, the former stays where it is
+/// until it is an end of the queue or wins.
 #[derive(Drop)]
 pub struct Earliest {
-    moments: Vec<Option<u128>>,
     queue: VecDeque<NumberedMoment>,
     rest: Tournament,
 }
@@ -42,54 +41,34 @@ impl Model for Earliest {
 
     ghost coded = { Prim.hlevel codes };
 
-    ghost view = { λ e. record { moments = e.moments.items; queue = e.queue.items; rest = e.rest } };
-
-    ghost use Rattle.std.specs.Prelude.{◌≤◌, length};
-
-    ghost invariant = { λ e. length e.moments.items ≤ length e.rest.moments };
+    ghost view = { λ e. record { queue = e.queue.items; rest = e.rest } };
 }
 
 impl Earliest {
-    /// Builds a table without numbers.
+    /// Builds it for a schedule without moments.
     pub fn new(alloc: Global) -> Earliest
-        ensures moments { result.moments ≡ [] }
         ensures held { (n : ℕ) → IsHeld result n → ⊥ }
-        ensures kept { (rank : ℕ → ℕ → Ordering) → IsOrdered rank result }
+        ensures kept { (rank : ℕ → ℕ → Ordering) (moments : ℕ → Option ℕ)
+            → ((n : ℕ) → moments n ≡ None) → IsOrdered rank moments result }
     {
         Earliest {
-            moments: Vec::new(alloc),
             queue: VecDeque::new(alloc),
             rest: Tournament::new(alloc),
         }
     }
 
-    /// Returns the moment of a number, if it has one.
-    pub fn at(&self, number: usize) -> Option<u128>
-        ensures { result ≡ moment_at self.now number }
-    {
-        match self.moments.get(number) {
-            None => None,
-            Some(moment) => *moment,
-        }
-    }
-
-    /// Makes room for the numbers below `count`, which have no moment yet. It makes at least twice
-    /// the room that there is, since all matches are played anew.
-    pub fn reserve<O: Ranking>(&mut self, order: &O, count: usize) -> Result<(), AllocError>
-        requires { IsOrdered (O.rank order.now) self.old }
-        ensures room { OnOk result (count ≤ length self.new.moments) }
-        ensures more { length self.old.moments ≤ length self.new.moments }
-        ensures same { (n : ℕ) → moment_at self.new n ≡ moment_at self.old n }
+    /// Makes room for the numbers below `count`. It makes at least twice the room that there is,
+    /// since all matches are played anew.
+    pub fn reserve<O: Schedule>(&mut self, schedule: &O, count: usize) -> Result<(), AllocError>
+        requires { IsOrdered (O.rank schedule.now) (O.moments schedule.now) self.old }
+        ensures room { OnOk result (count ≤ room self.new) }
+        ensures more { room self.old ≤ room self.new }
         ensures held { (n : ℕ) → IsHeld self.new n → IsHeld self.old n }
-        ensures kept { IsOrdered (O.rank order.now) self.new }
+        ensures kept { IsOrdered (O.rank schedule.now) (O.moments schedule.now) self.new }
     {
-        if count <= self.moments.len() {
-            return Ok(());
-        }
-        self.rest.reserve(order, count)?;
-        self.drop_winners(order);
-        let enough = self.rest.len();
-        self.moments.resize(enough, None)
+        self.rest.reserve(schedule, count)?;
+        self.drop_winners(schedule);
+        Ok(())
     }
 
     /// Makes room in the queue for as many moments as there are numbers. Without it, fewer stand
@@ -97,47 +76,47 @@ impl Earliest {
     pub fn reserve_queue(&mut self) -> Result<(), AllocError>
         ensures { self.new ≡ self.old }
     {
-        let numbers = self.moments.len();
-        let more = numbers.saturating_sub(self.queue.len());
+        let more = self.rest.len().saturating_sub(self.queue.len());
         self.queue.reserve(more)
     }
 
-    /// Sets or removes the moment of a number. It takes no memory, and next to no time if the
-    /// moment is the last or the first of the queue.
+    /// Takes up the moment that a number has in the schedule now, given the one that it had before.
+    /// It takes no memory, and next to no time if the moment is the last or the first of the queue.
     #[inline(always)]
-    pub fn set<O: Ranking>(&mut self, order: &O, number: usize, moment: Option<u128>)
-        requires room { number < length self.old.moments }
-        requires kept { IsOrdered (O.rank order.now) self.old }
-        ensures moments { self.new.moments ≡ slice_set self.old.moments number moment }
+    pub fn update<O: Schedule>(&mut self, schedule: &O, number: usize, former: Option<u128>)
+        requires room { number < room self.old }
+        requires kept { IsOrdered (O.rank schedule.now)
+            (changed_back (O.moments schedule.now) number former) self.old }
+        ensures room { room self.new ≡ room self.old }
         ensures held { (n : ℕ) → IsHeld self.new n → IsHeld self.old n ⊎ (n ≡ number) }
-        ensures kept { IsOrdered (O.rank order.now) self.new }
+        ensures kept { IsOrdered (O.rank schedule.now) (O.moments schedule.now) self.new }
     {
-        if self.at(number) == moment {
+        let moment = schedule.moment(number);
+        if moment == former {
             return;
         }
-        match moment {
-            None => self.moments[number] = None,
-            Some(moment) => self.insert(order, NumberedMoment { moment, number }),
+        if let Some(moment) = moment {
+            self.insert(schedule, NumberedMoment { moment, number });
         }
-        self.drop_first();
-        self.drop_winners(order);
+        self.drop_first(schedule);
+        self.drop_winners(schedule);
     }
 
     /// Returns the number with the earliest moment; of equal moments, the one that the order puts
     /// first.
-    pub fn first<O: Ranking>(&self, order: &O) -> Option<usize>
-        requires { IsOrdered (O.rank order.now) self.now }
-        ensures some { IfSome result (λ n. IsTotalOrder (O.rank order.now)
-            → IsEarliest (O.rank order.now) self.now n) }
-        ensures none { IfNone result (IsTotalOrder (O.rank order.now)
-            → (n : ℕ) → moment_at self.now n ≡ None) }
+    pub fn first<O: Schedule>(&self, schedule: &O) -> Option<usize>
+        requires { IsOrdered (O.rank schedule.now) (O.moments schedule.now) self.now }
+        ensures some { IfSome result (λ n. IsTotalOrder (O.rank schedule.now)
+            → IsEarliest (O.rank schedule.now) (O.moments schedule.now) n) }
+        ensures none { IfNone result (IsTotalOrder (O.rank schedule.now)
+            → (n : ℕ) → O.moments schedule.now n ≡ None) }
     {
         match (self.front(), self.winner()) {
             (None, None) => None,
             (Some(front), None) => Some(front.number),
             (None, Some(winner)) => Some(winner.number),
             (Some(front), Some(winner)) => {
-                if is_in_order(order, front, winner) {
+                if is_in_order(schedule, front, winner) {
                     Some(front.number)
                 } else {
                     Some(winner.number)
@@ -171,131 +150,135 @@ impl Earliest {
         Some(NumberedMoment { moment, number })
     }
 
-    /// Sets the moment of a number: at an end of the queue if it is in order there, else among the
-    /// rest.
+    /// Lets the moment that a number has now stand: at an end of the queue if it is in order there,
+    /// else among the rest. Those of all other numbers stand already.
     #[inline(never)]
-    fn insert<O: Ranking>(&mut self, order: &O, standing: NumberedMoment)
-        requires room { standing.number < length self.old.moments }
-        requires kept { AreKept (O.rank order.now) self.old }
-        ensures moments { self.new.moments
-            ≡ slice_set self.old.moments standing.number (Some standing.moment) }
+    fn insert<O: Schedule>(&mut self, schedule: &O, standing: NumberedMoment)
+        requires room { standing.number < room self.old }
+        requires current { IsCurrent (O.moments schedule.now) standing }
+        requires kept { AreKept (O.rank schedule.now)
+            (changed_back (O.moments schedule.now) standing.number None) self.old }
+        ensures room { room self.new ≡ room self.old }
         ensures held { (n : ℕ) → IsHeld self.new n → IsHeld self.old n ⊎ (n ≡ standing.number) }
-        ensures kept { AreKept (O.rank order.now) self.new }
+        ensures kept { AreKept (O.rank schedule.now) (O.moments schedule.now) self.new }
     {
         let has_room = self.queue.len() < self.queue.capacity();
-        if has_room && are_in_order(order, self.last(), Some(standing)) {
-            self.moments[standing.number] = Some(standing.moment);
+        if has_room && are_in_order(schedule, self.last(), Some(standing)) {
             self.queue.push_back_reserved(standing);
             return;
         }
-        self.moments[standing.number] = None;
-        self.drop_last();
-        self.insert_before(order, standing);
+        self.drop_last(schedule);
+        self.insert_before(schedule, standing);
     }
 
-    /// Sets the moment of a number that has none: at the front of the queue if it is in order
+    /// Lets the moment that a number has now stand: at the front of the queue if it is in order
     /// there, else among the rest.
     #[inline(never)]
-    fn insert_before<O: Ranking>(&mut self, order: &O, standing: NumberedMoment)
-        requires room { standing.number < length self.old.moments }
-        requires kept { AreKept (O.rank order.now) self.old }
-        ensures moments { self.new.moments
-            ≡ slice_set self.old.moments standing.number (Some standing.moment) }
+    fn insert_before<O: Schedule>(&mut self, schedule: &O, standing: NumberedMoment)
+        requires room { standing.number < room self.old }
+        requires current { IsCurrent (O.moments schedule.now) standing }
+        requires kept { AreKept (O.rank schedule.now)
+            (changed_back (O.moments schedule.now) standing.number None) self.old }
+        ensures room { room self.new ≡ room self.old }
         ensures held { (n : ℕ) → IsHeld self.new n → IsHeld self.old n ⊎ (n ≡ standing.number) }
-        ensures kept { AreKept (O.rank order.now) self.new }
+        ensures kept { AreKept (O.rank schedule.now) (O.moments schedule.now) self.new }
     {
-        self.moments[standing.number] = Some(standing.moment);
         let has_room = self.queue.len() < self.queue.capacity();
-        if has_room && are_in_order(order, Some(standing), self.front()) {
+        if has_room && are_in_order(schedule, Some(standing), self.front()) {
             self.queue.push_front_reserved(standing);
         } else {
-            self.rest.set(order, standing.number, Some(standing.moment));
+            self.rest
+                .set(schedule, standing.number, Some(standing.moment));
         }
     }
 
     /// Drops moments from the end of the queue, as long as they aren't current.
-    fn drop_last(&mut self)
-        ensures moments { self.new.moments ≡ self.old.moments }
+    fn drop_last<O: Schedule>(&mut self, schedule: &O)
         ensures rest { self.new.rest ≡ self.old.rest }
         ensures queue { (s : NumberedMoment)
             → StandsIn self.new.queue s → StandsIn self.old.queue s }
-        ensures kept { (rank : ℕ → ℕ → Ordering) → AreKept rank self.old → AreKept rank self.new }
-        ensures last { IfSome (last_or None self.new.queue) (IsCurrent self.new) }
+        ensures kept { (rank : ℕ → ℕ → Ordering) (moments : ℕ → Option ℕ)
+            → AreAmong moments (O.moments schedule.now) → AreKept rank moments self.old
+            → AreKept rank moments self.new }
+        ensures last { IfSome (last_or None self.new.queue) (IsCurrent (O.moments schedule.now)) }
     {
-        while self.is_outdated(self.last()) {
+        while is_outdated(schedule, self.last()) {
             self.queue.pop_back();
         }
     }
 
     /// Drops moments from the front of the queue, as long as they aren't current.
-    fn drop_first(&mut self)
-        ensures moments { self.new.moments ≡ self.old.moments }
+    fn drop_first<O: Schedule>(&mut self, schedule: &O)
         ensures rest { self.new.rest ≡ self.old.rest }
         ensures queue { (s : NumberedMoment)
             → StandsIn self.new.queue s → StandsIn self.old.queue s }
-        ensures kept { (rank : ℕ → ℕ → Ordering) → AreKept rank self.old → AreKept rank self.new }
-        ensures front { IsFrontCurrent self.new self.new.queue }
+        ensures kept { AreKept (O.rank schedule.now) (O.moments schedule.now) self.old
+            → AreKept (O.rank schedule.now) (O.moments schedule.now) self.new }
+        ensures front { IsFrontCurrent (O.moments schedule.now) self.new.queue }
     {
-        while self.is_outdated(self.front()) {
+        while is_outdated(schedule, self.front()) {
             self.queue.pop_front();
         }
     }
 
-    /// Returns whether there is a moment that its number doesn't have any more.
-    fn is_outdated(&self, standing: Option<NumberedMoment>) -> bool
-        ensures outdated { result ≡ true → IsOutdated self.now standing }
-        ensures current { result ≡ false → IfSome standing (IsCurrent self.now) }
-    {
-        match standing {
-            None => false,
-            Some(standing) => self.at(standing.number) != Some(standing.moment),
-        }
-    }
-
     /// Takes the winners of the rest out, as long as they aren't current.
-    fn drop_winners<O: Ranking>(&mut self, order: &O)
-        requires { AreKept (O.rank order.now) self.old }
-        ensures moments { self.new.moments ≡ self.old.moments }
+    fn drop_winners<O: Schedule>(&mut self, schedule: &O)
+        requires { AreKept (O.rank schedule.now) (O.moments schedule.now) self.old }
         ensures queue { self.new.queue ≡ self.old.queue }
-        ensures room { length self.new.rest.moments ≡ length self.old.rest.moments }
+        ensures room { room self.new ≡ room self.old }
         ensures held { (n : ℕ) → IsHeld self.new n → IsHeld self.old n }
-        ensures kept { AreKept (O.rank order.now) self.new }
-        ensures winner { IsWinnerCurrent self.new }
+        ensures kept { AreKept (O.rank schedule.now) (O.moments schedule.now) self.new }
+        ensures winner { IsWinnerCurrent (O.moments schedule.now) self.new.rest }
     {
-        while let Some(number) = self.outdated_winner() {
-            self.rest.set(order, number, None);
+        while let Some(number) = self.outdated_winner(schedule) {
+            self.rest.set(schedule, number, None);
         }
     }
 
     /// Returns the number that wins the rest with a moment that it doesn't have any more.
-    fn outdated_winner(&self) -> Option<usize>
+    fn outdated_winner<O: Schedule>(&self, schedule: &O) -> Option<usize>
         ensures some { IfSome result (λ n. (first_of self.now.rest ≡ Some n)
-            × (tournament.moment_at self.now.rest n ≢ moment_at self.now n)) }
-        ensures none { IfNone result (IsWinnerCurrent self.now) }
+            × (tournament.moment_at self.now.rest n ≢ O.moments schedule.now n)) }
+        ensures none { IfNone result (IsWinnerCurrent (O.moments schedule.now) self.now.rest) }
     {
         let number = self.rest.first()?;
-        if self.rest.at(number) == self.at(number) {
+        if self.rest.at(number) == schedule.moment(number) {
             return None;
         }
         Some(number)
     }
 }
 
+/// Returns whether there is a moment that its number doesn't have any more.
+fn is_outdated<O: Schedule>(schedule: &O, standing: Option<NumberedMoment>) -> bool
+    ensures outdated { result ≡ true → IsOutdated (O.moments schedule.now) standing }
+    ensures current { result ≡ false → IfSome standing (IsCurrent (O.moments schedule.now)) }
+{
+    match standing {
+        None => false,
+        Some(standing) => schedule.moment(standing.number) != Some(standing.moment),
+    }
+}
+
 /// Returns whether two moments are in order, or one of them is missing.
-fn are_in_order<O: Ranking>(order: &O, a: Option<NumberedMoment>, b: Option<NumberedMoment>) -> bool
-    ensures { result ≡ are_in_order (O.rank order.now) a b }
+fn are_in_order<O: Schedule>(
+    schedule: &O,
+    a: Option<NumberedMoment>,
+    b: Option<NumberedMoment>,
+) -> bool
+    ensures { result ≡ are_in_order (O.rank schedule.now) a b }
 {
     match (a, b) {
-        (Some(a), Some(b)) => is_in_order(order, a, b),
+        (Some(a), Some(b)) => is_in_order(schedule, a, b),
         _ => true,
     }
 }
 
 /// Returns whether the first moment isn't later than the second and, if they are equal, the order
 /// doesn't put its number after the other.
-fn is_in_order<O: Ranking>(order: &O, a: NumberedMoment, b: NumberedMoment) -> bool
-    ensures { result ≡ is_in_order (O.rank order.now) a b }
+fn is_in_order<O: Schedule>(schedule: &O, a: NumberedMoment, b: NumberedMoment) -> bool
+    ensures { result ≡ is_in_order (O.rank schedule.now) a b }
 {
     a.moment < b.moment
-        || (a.moment == b.moment && order.compare(a.number, b.number) != Ordering::Greater)
+        || (a.moment == b.moment && schedule.compare(a.number, b.number) != Ordering::Greater)
 }

@@ -1,17 +1,16 @@
 //! Values by key. Each key has a number, and its value is at the place with that number, so that a
 //! value can be swapped without memory. The state keeps alerts, silences, members, timers and the
 //! notification log in such tables.
-ghost use Rattle.std.specs.Prelude.{◌≡◌, [], IsTrue, Some, is_some, false, OnOk, OnErr, IfOk, map};
+ghost use Rattle.std.specs.Prelude.{◌≡◌, ℕ, [], IsTrue, Some, is_some, false, OnOk, OnErr, IfOk, map, slice_set};
 ghost use Rattle.std.specs.Map.Iter.{deref_pair};
 ghost use Rattle.std.specs.Option.{option_copied};
 ghost use Rattle.amr_labels.specs.Map as map;
 ghost use Rattle.amr_tables.specs.Places.{value_at, values_of};
-ghost use Rattle.amr_tables.specs.Numbered.{map_of, has_place, next_number, number_of, KeepsPlaces, GetsNumber, IsValueOf, IsNumber, IsMarkOf, IsSetAt, EntersAt, SamePlaces, SameEntered, NoneEntered, IsNumbering, key_at};
+ghost use Rattle.amr_tables.specs.Numbered.{map_of, has_place, next_number, number_of, KeepsPlaces, GetsNumber, IsValueOf, IsNumber, IsMarkOf, IsSetAt, EntersAt, SamePlaces, SameEntered, NoneEntered, IsNumbering, key_at, rank_of};
 
 use crate::cells::Cells;
 use crate::key::Key;
 use crate::numbers::Numbers;
-use crate::ranking::Ranking;
 use crate::values::Values;
 use std::alloc::{AllocError, Global};
 use std::cmp::Ordering;
@@ -46,6 +45,8 @@ impl<K: Key + Drop, V: Drop> Keyed<K, V> {
         ensures shown { map_of K.cmp result ≡ map.empty }
         ensures entered { NoneEntered K.cmp result }
         ensures keys { result.numbers ≡ [] }
+        ensures cells { result.cells ≡ [] }
+        ensures numbering { IsNumbering K.cmp result }
     {
         Keyed {
             numbers: Numbers::new(alloc),
@@ -117,6 +118,13 @@ impl<K: Key + Drop, V: Drop> Keyed<K, V> {
         self.numbers.key_at(number)
     }
 
+    /// Compares the keys that have two numbers.
+    pub fn compare_at(&self, a: usize, b: usize) -> Ordering
+        ensures { result ≡ rank_of K.cmp self.now a b }
+    {
+        self.key_at(a).cmp(&self.key_at(b))
+    }
+
     /// Returns the number that the next new key gets.
     pub fn next_number(&self) -> usize
         ensures next { result ≡ next_number self.now }
@@ -139,6 +147,7 @@ impl<K: Key + Drop, V: Drop> Keyed<K, V> {
         ensures places { KeepsPlaces K.cmp self.old self.new }
         ensures shown { map_of K.cmp self.new ≡ map_of K.cmp self.old }
         ensures entered { SameEntered K.cmp self.old self.new }
+        ensures values { (n : ℕ) → value_at self.new.cells n ≡ value_at self.old.cells n }
         ensures numbers { IsTrue (has_place K.cmp self.old key)
             → self.new.numbers ≡ self.old.numbers }
         ensures number { OnOk result (has_place K.cmp self.old key ≡ false
@@ -179,6 +188,9 @@ impl<K: Key + Drop, V: Drop> Keyed<K, V> {
         ensures places { SamePlaces K.cmp self.old self.new }
         ensures entered { EntersAt K.cmp self.old number self.new }
         ensures keys { self.new.numbers ≡ self.old.numbers }
+        ensures value { value.new ≡ value_at self.old.cells number }
+        ensures cells { self.new.cells ≡ slice_set self.old.cells number value.old }
+        ensures numbering { IsNumbering K.cmp self.new }
     {
         self.cells.swap(number, value)
     }
@@ -189,18 +201,9 @@ impl<K: Key + Drop, V: Drop> Keyed<K, V> {
         ensures shown { map_of K.cmp self.new ≡ map_of K.cmp self.old }
         ensures places { SamePlaces K.cmp self.old self.new }
         ensures keys { self.new.numbers ≡ self.old.numbers }
+        ensures cells { self.new.cells ≡ self.old.cells }
+        ensures numbering { IsNumbering K.cmp self.new }
     {
         self.cells.clear_marks();
-    }
-}
-
-/// Numbers are compared by the keys that have them.
-impl<K: Key + Drop, V: Drop> Ranking for Keyed<K, V> {
-    ghost use Rattle.amr_tables.specs.Numbered.{rank_of};
-
-    ghost rank = { rank_of K.cmp };
-
-    fn compare(&self, a: usize, b: usize) -> Ordering {
-        self.key_at(a).cmp(&self.key_at(b))
     }
 }

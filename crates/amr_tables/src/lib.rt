@@ -10,7 +10,7 @@ mod key;
 mod keyed;
 mod numbers;
 mod places;
-mod ranking;
+mod schedule;
 mod tournament;
 mod values;
 
@@ -20,5 +20,5 @@ pub use journal::Journal;
 pub use key::Key;
 pub use keyed::Keyed;
 pub use places::make_place;
-pub use ranking::Ranking;
+pub use schedule::Schedule;
 pub use values::Values;

@@ -5,7 +5,7 @@ ghost use Rattle.std.specs.declared.cmp.Ordering.{Ordering};
 ghost use Rattle.std.specs.Ordering.{is_lt};
 ghost use Rattle.amr_tables.specs.Tournament.{moment_at, winner_at, timer_at, timer_cmp, first_of, later_winner, IsTournament};
 
-use crate::ranking::Ranking;
+use crate::schedule::Schedule;
 use std::alloc::{AllocError, Global};
 use std::cmp::Ordering;
 use std::marker::Model;
@@ -69,12 +69,12 @@ impl Tournament {
 
     /// Makes room for the numbers below `count`, which have no moment yet. It makes at least twice
     /// the room that there is, since all matches are played anew.
-    pub fn reserve<O: Ranking>(&mut self, order: &O, count: usize) -> Result<(), AllocError>
-        requires { IsTournament (O.rank order.now) self.old }
+    pub fn reserve<O: Schedule>(&mut self, schedule: &O, count: usize) -> Result<(), AllocError>
+        requires { IsTournament (O.rank schedule.now) self.old }
         ensures room { OnOk result (count ≤ length self.new.moments) }
         ensures more { length self.old.moments ≤ length self.new.moments }
         ensures same { (n : ℕ) → moment_at self.new n ≡ moment_at self.old n }
-        ensures kept { IsTournament (O.rank order.now) self.new }
+        ensures kept { IsTournament (O.rank schedule.now) self.new }
         ensures err { OnErr result (self.new ≡ self.old) }
     {
         let numbers = self.moments.len();
@@ -86,30 +86,30 @@ impl Tournament {
         winners.resize(enough, 0)?;
         self.moments.resize(enough, None)?;
         self.winners = winners;
-        self.play_all(order);
+        self.play_all(schedule);
         Ok(())
     }
 
     /// Plays all matches anew, the last nodes first.
-    fn play_all<O: Ranking>(&mut self, order: &O)
+    fn play_all<O: Schedule>(&mut self, schedule: &O)
         ensures moments { self.new.moments ≡ self.old.moments }
-        ensures kept { IsTournament (O.rank order.now) self.new }
+        ensures kept { IsTournament (O.rank schedule.now) self.new }
     {
         let mut node = self.moments.len();
         while node > 1 {
             node -= 1;
-            self.play(order, node);
+            self.play(schedule, node);
         }
     }
 
     /// Sets or removes the moment of a number. Plays no match if the number has it already, and none
     /// above one that another number wins as before. It takes no memory.
     #[inline(never)]
-    pub fn set<O: Ranking>(&mut self, order: &O, number: usize, moment: Option<u128>)
+    pub fn set<O: Schedule>(&mut self, schedule: &O, number: usize, moment: Option<u128>)
         requires room { number < length self.old.moments }
-        requires kept { IsTournament (O.rank order.now) self.old }
+        requires kept { IsTournament (O.rank schedule.now) self.old }
         ensures moments { self.new.moments ≡ slice_set self.old.moments number moment }
-        ensures kept { IsTournament (O.rank order.now) self.new }
+        ensures kept { IsTournament (O.rank schedule.now) self.new }
     {
         if self.at(number) == moment {
             return;
@@ -118,7 +118,7 @@ impl Tournament {
         let mut node = self.moments.len() + number;
         while node > 1 {
             node /= 2;
-            let former = self.play(order, node);
+            let former = self.play(schedule, node);
             if former != number && self.winner(node) == former {
                 return;
             }
@@ -128,17 +128,17 @@ impl Tournament {
     /// Lets the winners below a node play, and notes who wins. Returns who won there before. A new
     /// moment plays a dozen matches, so a call would cost a sixth of each.
     #[inline(always)]
-    fn play<O: Ranking>(&mut self, order: &O, node: usize) -> usize
+    fn play<O: Schedule>(&mut self, schedule: &O, node: usize) -> usize
         requires first { 1 ≤ node }
         requires inner { node < length self.old.moments }
         ensures former { result ≡ winner_at self.old node }
         ensures moments { self.new.moments ≡ self.old.moments }
         ensures winners { self.new.winners ≡ slice_set self.old.winners node
-            (later_winner (O.rank order.now) self.old node) }
+            (later_winner (O.rank schedule.now) self.old node) }
     {
         let left = self.winner(node * 2);
         let right = self.winner(node * 2 + 1);
-        let is_right = self.is_before(order, right, left);
+        let is_right = self.is_before(schedule, right, left);
         let winner = if is_right { right } else { left };
         mem::replace(&mut self.winners[node], winner)
     }
@@ -157,13 +157,13 @@ impl Tournament {
 
     /// Returns whether the moment of a number is before that of another or, if they are equal, the
     /// order puts the number first. A number without a moment is last.
-    fn is_before<O: Ranking>(&self, order: &O, a: usize, b: usize) -> bool
+    fn is_before<O: Schedule>(&self, schedule: &O, a: usize, b: usize) -> bool
         ensures { result
-            ≡ is_lt (timer_cmp (O.rank order.now) (timer_at self.now a) (timer_at self.now b)) }
+            ≡ is_lt (timer_cmp (O.rank schedule.now) (timer_at self.now a) (timer_at self.now b)) }
     {
         match (self.at(a), self.at(b)) {
             (Some(moment), Some(other)) => {
-                moment < other || (moment == other && order.compare(a, b) == Ordering::Less)
+                moment < other || (moment == other && schedule.compare(a, b) == Ordering::Less)
             }
             (Some(_), None) => true,
             (None, _) => false,

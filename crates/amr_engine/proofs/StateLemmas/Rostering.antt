@@ -1,23 +1,23 @@
 -- The members of groups by number, how a change of one of them goes on, and the members of a group.
-use Rattle.std.proofs.Common.{◌≡◌, ◌≢◌, ◌≤◌, ◌<◌, ◌+◌, ℕ, zero, suc, Bool, true, false, IsTrue, cond, ◌||◌, ◌&&◌, T, List, [], ◌∷◌, ◌++◌, Option, Some, None, is_some, map, length, get_or, drop, Bor, refl, sym, ap, subst, ◌∙◌, arith}
-use Rattle.std.specs.Prelude.{◌==◌, option_map, if◌then◌else◌, IsPermutation, IsSorted, slice_set}
+use Rattle.std.proofs.Common.{◌≡◌, ◌≢◌, ◌≤◌, ◌<◌, ℕ, zero, suc, Bool, true, false, IsTrue, cond, ◌||◌, ◌&&◌, T, List, [], ◌∷◌, Option, Some, None, is_some, map, length, refl, sym, ap, subst, ◌∙◌, arith}
+use Rattle.std.specs.Prelude.{◌==◌, option_map, option_and_then, if◌then◌else◌, IsPermutation, slice_set}
 use Rattle.std.specs.List.{All, AllByRecursion, IsDistinct, list_any, filter, filter_map, cons_option}
-use Rattle.std.specs.List.Sorted.{IsStrictlySortedBy}
+use Rattle.std.specs.List.Sorted.{IsStrictlySortedBy, IsSortedBy}
 use Rattle.std.specs.declared.cmp.Ordering.{Ordering}
 use Rattle.std.specs.declared.cmp.Ordering.TheVariants.{Less, Equal, Greater}
-use Rattle.std.specs.Ordering.{nat_cmp, eq_by_cmp, is_eq, ordering_then}
-use Rattle.std.specs.Cmp.{nat_cmp_total, tied_itself}
+use Rattle.std.specs.Ordering.{nat_cmp, eq_by_cmp, is_eq, is_lt, ordering_then}
+use Rattle.std.specs.Cmp.{nat_cmp_total, eq_by_cmp_equiv, tied_itself}
 use Rattle.std.specs.FinMap.{find, is_sorted}
 use Rattle.std.specs.FinMap.Entries.{below_all, is_some-find}
 use Rattle.std.proofs.lemmas.Bool.{true≢false}
 use Rattle.std.proofs.lemmas.Bool.Decides.{nat_tests}
-use Rattle.std.proofs.lemmas.List.{append_assoc, at_drop_more, length-set, get_or-set_same, get_or-set_other}
-use Rattle.std.proofs.lemmas.List.Elements.{All-nil, All-cons, All-head, All-tail, All-get_or}
+use Rattle.std.proofs.lemmas.List.{length-set, get_or-set_same, get_or-set_other}
+use Rattle.std.proofs.lemmas.List.Elements.{All-nil, All-cons, All-head, All-tail}
 use Rattle.std.proofs.lemmas.List.Sorted.{All-permutation, IsPermutation-map, list_any-IsPermutation}
 use Rattle.std.proofs.lemmas.Map.Keys.{IsDistinct-IsPermutation}
 use Rattle.std.proofs.lemmas.Option.{same_Some}
 use Rattle.amr_labels.specs.Labels.{LabelSet, label_set_cmp, label_set_cmp_total, label_set_cmp-IsAntisymmetric}
-use Rattle.amr_labels.specs.Map.{Map, get, set, empty, entries, get-set, get-entries, entries-sorted}
+use Rattle.amr_labels.specs.Map.{Map, get, set, entries, get-set, get-entries, entries-sorted}
 use Rattle.amr_labels.proofs.Pairs.{own_values}
 use Rattle.amr_labels.proofs.Sorted.{first, second, less}
 use Rattle.amr_config.specs.Stated.Config.{Config}
@@ -25,18 +25,17 @@ use Rattle.amr_rules.specs.declared.alert.Alert.{Alert}
 use Rattle.amr_tables.specs.Places.{value_at}
 use Rattle.amr_tables.proofs.Placing.{value_set, value_apart}
 use Rattle.amr_tables.specs.Members.{has}
-use Rattle.amr_tables.specs.Numbered.{Numbered, map_of, number_of, has_place, next_number, key_at, GetsNumber, IsNumber, IsNumbering}
+use Rattle.amr_tables.specs.Numbered.{Numbered, map_of, number_of, next_number, GetsNumber, IsNumber, IsNumbering}
 use Rattle.amr_tables.specs.Grouped.{Grouped, group_at, AreNumbersOf}
-use Rattle.amr_tables.proofs.Naming.{key_at_number}
+use Rattle.amr_tables.proofs.Naming.{key_at_number, one_key, value_at_number, number_of_value}
 use Rattle.amr_tables.proofs.Sorting.{same_from_members}
 use Rattle.amr_tables.proofs.Counting.{strictly}
 use Rattle.amr_engine.specs.declared.state.notification.GroupTimer.{GroupTimer}
 use Rattle.amr_config.specs.declared.route_labels.RouteLabels.{RouteLabels}
 use Rattle.amr_config.specs.RouteLabels.{on_route, route_labels_cmp, route_labels_cmp_total, route_labels_cmp-IsAntisymmetric}
 use Rattle.amr_engine.specs.State.State.{group_key, members_among}
-use Rattle.amr_engine.specs.State.Timed.{AreNumbered}
-use Rattle.amr_engine.specs.State.Rostered.{labels_of_members, labels_of_numbered, numbered_labels, with_alert, home_at, IsNumbered, IsGrouped}
-use Rattle.amr_engine.proofs.StateLemmas.Scheduling.{not_none, the_value, numbered_same, numbered_set, numbered_placed, none_numbered}
+use Rattle.amr_engine.specs.State.Rostered.{home_at, member_at, IsGrouped}
+use Rattle.amr_engine.proofs.StateLemmas.Scheduling.{not_none, the_value}
 
 -- ---- truth values
 
@@ -65,16 +64,25 @@ other_of false b e = absurd (true≢false (sym e))
 tied_key : (k other : RouteLabels) → is_eq (route_labels_cmp other k) ≡ true → other ≡ k
 tied_key k other e = route_labels_cmp-IsAntisymmetric other k (equal_of _ e)
 
+or_right : (a b : Bool) → IsTrue b → IsTrue (a || b)
+or_right true b h = refl
+or_right false b h = h
+
+-- each number of a list has what each that is among it has
+all_among : (P : ℕ → Type 0) (ns : List ℕ) → ((n : ℕ) → IsTrue (list_any (λ m. n == m) ns) → P n) → AllByRecursion P ns
+all_among P [] h = tt
+all_among P (x ∷ ns) h = (h x (ap (λ b. b || list_any (λ m. x == m) ns) (itself x)), all_among P ns (λ n e. h n (or_right (n == x) _ e)))
+  where
+    itself : (n : ℕ) → (n == n) ≡ true
+    itself n = grind (arith, nat_tests)
+
 -- ---- places and numbers
 
-module _ {V : Type 0} (t : Numbered RouteLabels V) where
-  place_number : (k : RouteLabels) → IsTrue (has_place route_labels_cmp t k) → (n : ℕ) × (number_of route_labels_cmp t k ≡ Some n)
-  unfolding has_place
-  place_number k h = the_value (number_of route_labels_cmp t k) h
-
-  no_place : (k : RouteLabels) → number_of route_labels_cmp t k ≡ None → IsTrue (has_place route_labels_cmp t k) → ⊥
-  unfolding has_place
-  no_place k none h = true≢false (sym h ∙ ap is_some none)
+-- a key with a value has a number
+the_number : {V : Type 0} (t : Numbered RouteLabels V) → IsNumbering route_labels_cmp t → (key : RouteLabels) → IsTrue (is_some (get (map_of route_labels_cmp t) key)) → (n : ℕ) × (number_of route_labels_cmp t key ≡ Some n)
+the_number t is key h =
+    let value = the_value (get (map_of route_labels_cmp t) key) h in
+    number_of_value route_labels_cmp_total route_labels_cmp-IsAntisymmetric t is key value.0 value.1
 
 -- a key that had a number keeps it when another gets one
 kept_number : {V : Type 0} (t u : Numbered RouteLabels V) (k : RouteLabels) (n : ℕ) → number_of route_labels_cmp t k ≡ None → GetsNumber route_labels_cmp t u k n → (key : RouteLabels) (m : ℕ) → number_of route_labels_cmp t key ≡ Some m → number_of route_labels_cmp u key ≡ Some m
@@ -103,9 +111,9 @@ set_again (x ∷ xs) (suc n) v h e = ap (λ (ys : List (Option ℕ)). x ∷ ys) 
 
 module _ (config : Config) (a : Numbered RouteLabels Alert) (gs : Numbered RouteLabels GroupTimer) (homes : List ℕ) (m : Grouped) (is : IsGrouped config a gs homes m) where
   -- the same members, with room for more
-  pub grouped_same : (b : Numbered RouteLabels Alert) (hs : Numbered RouteLabels GroupTimer) (k : Grouped) → b.numbers ≡ a.numbers → map_of route_labels_cmp b ≡ map_of route_labels_cmp a → hs.numbers ≡ gs.numbers → ((n : ℕ) → group_at k n ≡ group_at m n) → length m.groups ≤ length k.groups → m.count ≤ k.count → IsGrouped config b hs homes k
-  grouped_same b hs k numbers shows groups same longer more = record {
-    numbered = numbered_same route_labels_cmp_total route_labels_cmp-IsAntisymmetric a b numbers shows is.numbered;
+  pub grouped_same : (b : Numbered RouteLabels Alert) (hs : Numbered RouteLabels GroupTimer) (k : Grouped) → IsNumbering route_labels_cmp b → b.numbers ≡ a.numbers → map_of route_labels_cmp b ≡ map_of route_labels_cmp a → hs.numbers ≡ gs.numbers → ((n : ℕ) → group_at k n ≡ group_at m n) → length m.groups ≤ length k.groups → m.count ≤ k.count → IsGrouped config b hs homes k
+  grouped_same b hs k numbering numbers shows groups same longer more = record {
+    numbering = numbering;
     home = λ key n at. ap (find route_labels_cmp (group_key config key)) groups ∙ is.home key n (before key n at);
     grouped = λ key n at. same n ∙ is.grouped key n (before key n at) ∙ ap (λ (s : Map route_labels_cmp Alert). option_map (λ _. home_at homes n) (get s key)) (sym shows);
     home_room = λ key n at. is.home_room key n (before key n at);
@@ -120,7 +128,7 @@ module _ (config : Config) (a : Numbered RouteLabels Alert) (gs : Numbered Route
   -- with room for more homes
   pub grouped_longer : (others : List ℕ) → length homes ≤ length others → ((n : ℕ) → n < length homes → home_at others n ≡ home_at homes n) → IsGrouped config a gs others m
   grouped_longer others longer kept = record {
-    numbered = is.numbered;
+    numbering = is.numbering;
     home = λ key n at. is.home key n at ∙ ap (λ g. Some g) (own key n at);
     grouped = λ key n at. is.grouped key n at ∙ ap (λ g. option_map (λ _. g) (get (map_of route_labels_cmp a) key)) (own key n at);
     home_room = λ key n at. omega (arith, longer, is.home_room key n at);
@@ -133,10 +141,10 @@ module _ (config : Config) (a : Numbered RouteLabels Alert) (gs : Numbered Route
       own key n at = sym (kept n (is.home_room key n at))
 
   -- a member has come, has changed, or has left
-  pub grouped_set : (b : Numbered RouteLabels Alert) (k : Grouped) (key : RouteLabels) (n : ℕ) (w : Option Alert) → number_of route_labels_cmp a key ≡ Some n → b.numbers ≡ a.numbers → map_of route_labels_cmp b ≡ set (map_of route_labels_cmp a) key w
+  pub grouped_set : (b : Numbered RouteLabels Alert) (k : Grouped) (key : RouteLabels) (n : ℕ) (w : Option Alert) → IsNumbering route_labels_cmp b → number_of route_labels_cmp a key ≡ Some n → b.numbers ≡ a.numbers → map_of route_labels_cmp b ≡ set (map_of route_labels_cmp a) key w
       → k.groups ≡ slice_set m.groups n (option_map (λ _. home_at homes n) w) → k.count ≡ m.count → IsGrouped config b gs homes k
-  grouped_set b k key n w at numbers shows groups count = record {
-    numbered = numbered_set route_labels_cmp_total route_labels_cmp-IsAntisymmetric a b key n w at numbers shows is.numbered;
+  grouped_set b k key n w numbering at numbers shows groups count = record {
+    numbering = numbering;
     home = λ other x there. is.home other x (ap (find route_labels_cmp other) (sym numbers) ∙ there);
     grouped = λ other x there. by_key other x (ap (find route_labels_cmp other) (sym numbers) ∙ there);
     home_room = λ other x there. is.home_room other x (ap (find route_labels_cmp other) (sym numbers) ∙ there);
@@ -163,16 +171,16 @@ module _ (config : Config) (a : Numbered RouteLabels Alert) (gs : Numbered Route
             | true ↦ λ same.
                 let number : n ≡ x = same_Some n x (sym at ∙ ap (number_of route_labels_cmp a) (sym (tied_key key other same)) ∙ there) in
                 subst (λ y. group_at k y ≡ option_map (λ _. home_at homes y) w) number there_now
-            | false ↦ λ other_key. apart x (λ e. true≢false (sym (ap is_eq (tied_itself route_labels_cmp_total key)) ∙ ap (λ (r : RouteLabels). eq_by_cmp route_labels_cmp r key) (is.numbered.apart key other n at (there ∙ ap (λ n. Some n) e)) ∙ other_key))
+            | false ↦ λ other_key. apart x (λ e. true≢false (sym (ap is_eq (tied_itself route_labels_cmp_total key)) ∙ ap (λ (r : RouteLabels). eq_by_cmp route_labels_cmp r key) (one_key route_labels_cmp_total route_labels_cmp-IsAntisymmetric a is.numbering key other n at (there ∙ ap (λ n. Some n) e)) ∙ other_key))
                 ∙ is.grouped other x there
           ] refl
           ∙ ap (option_map (λ _. home_at homes x)) (sym (value other))
 
   -- a member has changed, or is still none
-  pub grouped_stays : (b : Numbered RouteLabels Alert) (key : RouteLabels) (n : ℕ) (w : Option Alert) → number_of route_labels_cmp a key ≡ Some n → b.numbers ≡ a.numbers → map_of route_labels_cmp b ≡ set (map_of route_labels_cmp a) key w
+  pub grouped_stays : (b : Numbered RouteLabels Alert) (key : RouteLabels) (n : ℕ) (w : Option Alert) → IsNumbering route_labels_cmp b → number_of route_labels_cmp a key ≡ Some n → b.numbers ≡ a.numbers → map_of route_labels_cmp b ≡ set (map_of route_labels_cmp a) key w
       → is_some (get (map_of route_labels_cmp a) key) ≡ is_some w → IsGrouped config b gs homes m
-  grouped_stays b key n w at numbers shows stays =
-      grouped_set b m key n w at numbers shows (sym (set_again m.groups n (option_map (λ _. home_at homes n) w) (is.room key n at) (is.grouped key n at ∙ same (get (map_of route_labels_cmp a) key) w stays))) refl
+  grouped_stays b key n w numbering at numbers shows stays =
+      grouped_set b m key n w numbering at numbers shows (sym (set_again m.groups n (option_map (λ _. home_at homes n) w) (is.room key n at) (is.grouped key n at ∙ same (get (map_of route_labels_cmp a) key) w stays))) refl
     where
       same : (o p : Option Alert) → is_some o ≡ is_some p → option_map (λ _. home_at homes n) o ≡ option_map (λ _. home_at homes n) p
       same None None e = refl
@@ -181,10 +189,10 @@ module _ (config : Config) (a : Numbered RouteLabels Alert) (gs : Numbered Route
       same (Some x) (Some y) e = refl
 
   -- a place for a member is made, with its home
-  pub grouped_placed : (b : Numbered RouteLabels Alert) (others : List ℕ) (k : RouteLabels) (g : ℕ) → IsNumbering route_labels_cmp a → number_of route_labels_cmp a k ≡ None → GetsNumber route_labels_cmp a b k (next_number a) → map_of route_labels_cmp b ≡ map_of route_labels_cmp a → next_number a < length m.groups
+  pub grouped_placed : (b : Numbered RouteLabels Alert) (others : List ℕ) (k : RouteLabels) (g : ℕ) → IsNumbering route_labels_cmp b → number_of route_labels_cmp a k ≡ None → GetsNumber route_labels_cmp a b k (next_number a) → map_of route_labels_cmp b ≡ map_of route_labels_cmp a → next_number a < length m.groups
       → number_of route_labels_cmp gs (group_key config k) ≡ Some g → others ≡ slice_set homes (next_number a) g → next_number a < length homes → IsGrouped config b gs others m
   grouped_placed b others k g numbering new gets shows room in_g homes_are home_room = record {
-    numbered = numbered_placed route_labels_cmp_total route_labels_cmp-IsAntisymmetric a b k (next_number a) gets numbering.within shows is.numbered;
+    numbering = numbering;
     home = by_number a b k (next_number a) gets (λ key n. number_of route_labels_cmp gs (group_key config key) ≡ Some (home_at others n))
         (in_g ∙ ap (λ g. Some g) (sym own)) (λ key n at. is.home key n at ∙ ap (λ g. Some g) (sym (apart key n at)));
     grouped = λ key n at. by_number a b k (next_number a) gets (λ key n. group_at m n ≡ option_map (λ _. home_at others n) (get (map_of route_labels_cmp a) key))
@@ -205,7 +213,7 @@ module _ (config : Config) (a : Numbered RouteLabels Alert) (gs : Numbered Route
 
       apart : (key : RouteLabels) (n : ℕ) → number_of route_labels_cmp a key ≡ Some n → home_at others n ≡ home_at homes n
       apart key n at =
-          let less = numbering.within key n at in
+          let less = is.numbering.within key n at in
           ap (λ l. home_at l n) homes_are ∙ get_or-set_other homes (next_number a) n g 0 (λ e. omega (arith, less, e))
 
       none_of : {A : Type 0} (x : Option A) → (IsTrue (is_some x) → ⊥) → x ≡ None
@@ -213,19 +221,19 @@ module _ (config : Config) (a : Numbered RouteLabels Alert) (gs : Numbered Route
       none_of (Some x) h = absurd (h refl)
 
       no_value : get (map_of route_labels_cmp a) k ≡ None
-      no_value = none_of (get (map_of route_labels_cmp a) k) (λ h. no_place a k new (is.numbered.placed k h))
+      no_value = none_of (get (map_of route_labels_cmp a) k) (λ h. let by = the_number a is.numbering k h in not_none by.0 ⊥ (sym by.1 ∙ new))
 
       nobody : group_at m (next_number a) ≡ None
       nobody = none_of (group_at m (next_number a)) (λ h.
           let g = the_value (group_at m (next_number a)) h in
           let by = is.named (next_number a) g.0 g.1 in
-          let less = numbering.within by.0 (next_number a) by.1 in
+          let less = is.numbering.within by.0 (next_number a) by.1 in
           omega (arith, less))
 
   -- a group gets a number
   pub group_placed : (hs : Numbered RouteLabels GroupTimer) (k : RouteLabels) → number_of route_labels_cmp gs k ≡ None → GetsNumber route_labels_cmp gs hs k (next_number gs) → next_number gs < m.count → IsGrouped config a hs homes m
   group_placed hs k new gets room = record {
-    numbered = is.numbered;
+    numbering = is.numbering;
     home = λ key n at. kept_number gs hs k (next_number gs) new gets (group_key config key) (home_at homes n) (is.home key n at);
     grouped = is.grouped;
     home_room = is.home_room;
@@ -234,9 +242,9 @@ module _ (config : Config) (a : Numbered RouteLabels Alert) (gs : Numbered Route
     group_room = by_number gs hs k (next_number gs) gets (λ group g. g < m.count) room is.group_room;
   }
 
-pub grouped_first : (config : Config) (a : Numbered RouteLabels Alert) (gs : Numbered RouteLabels GroupTimer) (homes : List ℕ) (m : Grouped) → a.numbers ≡ [] → map_of route_labels_cmp a ≡ empty → gs.numbers ≡ [] → m.groups ≡ [] → IsGrouped config a gs homes m
-grouped_first config a gs homes m none no_members no_groups nothing = record {
-  numbered = none_numbered route_labels_cmp_total route_labels_cmp-IsAntisymmetric a none no_members;
+pub grouped_first : (config : Config) (a : Numbered RouteLabels Alert) (gs : Numbered RouteLabels GroupTimer) (homes : List ℕ) (m : Grouped) → IsNumbering route_labels_cmp a → a.numbers ≡ [] → gs.numbers ≡ [] → m.groups ≡ [] → IsGrouped config a gs homes m
+grouped_first config a gs homes m numbering none no_groups nothing = record {
+  numbering = numbering;
   home = λ key n at. not_none n _ (sym at ∙ ap (find route_labels_cmp key) none);
   grouped = λ key n at. not_none n _ (sym at ∙ ap (find route_labels_cmp key) none);
   home_room = λ key n at. not_none n _ (sym at ∙ ap (find route_labels_cmp key) none);
@@ -247,10 +255,10 @@ grouped_first config a gs homes m none no_members no_groups nothing = record {
 
 -- ---- the number of a member of the group
 
-module _ (config : Config) (a : Numbered RouteLabels Alert) (gs : Numbered RouteLabels GroupTimer) (homes : List ℕ) (m : Grouped) (is : IsGrouped config a gs homes m) (group : RouteLabels) (numbered : AreNumbered route_labels_cmp gs) (g : ℕ) (at : number_of route_labels_cmp gs group ≡ Some g) where
+module _ (config : Config) (a : Numbered RouteLabels Alert) (gs : Numbered RouteLabels GroupTimer) (homes : List ℕ) (m : Grouped) (is : IsGrouped config a gs homes m) (group : RouteLabels) (numbering : IsNumbering route_labels_cmp gs) (g : ℕ) (at : number_of route_labels_cmp gs group ≡ Some g) where
   grouped_at : (key : RouteLabels) (n : ℕ) (o : Option Alert) → number_of route_labels_cmp gs (group_key config key) ≡ Some (home_at homes n) → option_map (λ _. home_at homes n) o ≡ Some g → IsTrue (is_some o) × (group_key config key ≡ group)
   grouped_at key n None own e = cc
-  grouped_at key n (Some x) own e = (refl, numbered.apart (group_key config key) group g (own ∙ e) at)
+  grouped_at key n (Some x) own e = (refl, one_key route_labels_cmp_total route_labels_cmp-IsAntisymmetric gs numbering (group_key config key) group g (own ∙ e) at)
 
   -- who has a number in the group is a member of it
   pub member_of : (n : ℕ) → group_at m n ≡ Some g → (key : RouteLabels) × (number_of route_labels_cmp a key ≡ Some n) × (IsTrue (is_some (get (map_of route_labels_cmp a) key)) × (group_key config key ≡ group))
@@ -259,19 +267,18 @@ module _ (config : Config) (a : Numbered RouteLabels Alert) (gs : Numbered Route
   -- a member of the group has a number in it
   pub number_in : (key : RouteLabels) → IsTrue (is_some (get (map_of route_labels_cmp a) key)) → group_key config key ≡ group → (n : ℕ) × (number_of route_labels_cmp a key ≡ Some n) × (group_at m n ≡ Some g)
   number_in key h e =
-      let by = place_number a key (is.numbered.placed key h) in
+      let by = the_number a is.numbering key h in
       let value = the_value (get (map_of route_labels_cmp a) key) h in
       (by.0, by.1, is.grouped key by.0 by.1 ∙ ap (option_map (λ _. home_at homes by.0)) value.1 ∙ sym (is.home key by.0 by.1) ∙ ap (number_of route_labels_cmp gs) e ∙ at)
 
-  -- the key that a number in the group names
-  pub named_by : IsNumbering route_labels_cmp a → (n : ℕ) → group_at m n ≡ Some g → (key : RouteLabels) → Some key ≡ key_at a n → IsNumbered a group.route (key.labels, n)
-  named_by numbering n there key is_key =
-      let by = member_of n there in
-      let same : by.0 ≡ key = same_Some by.0 key (sym (key_at_number route_labels_cmp_total route_labels_cmp-IsAntisymmetric a numbering by.0 n by.1) ∙ sym is_key) in
-      let route : key.route ≡ group.route = ap (λ (r : RouteLabels). r.route) (sym same) ∙ ap (λ (r : RouteLabels). r.route) by.2.1 in
-      ap (number_of route_labels_cmp a) ((λ i. on_route (sym route i) key.labels) ∙ sym same) ∙ by.1
-
 -- ---- the members of a group, from the members of all
+
+abbrev labels_of_members : List (LabelSet × Alert) → List LabelSet
+labels_of_members members = map (λ member. member.0) members
+
+-- the labels of a member on a route with its alert, if it has one
+abbrev with_alert : Map route_labels_cmp Alert → ℕ → LabelSet → Option (LabelSet × Alert)
+with_alert placements route labels = option_map (λ alert. (labels, alert)) (get placements (on_route route labels))
 
 skips : (a b c : Bool) → (a ≡ true → b ≡ false) → (b && c) ≡ (b && (a || c))
 skips true b c f = ap (λ x. x && c) (f refl) ∙ sym (ap (λ x. x && true) (f refl))
@@ -362,160 +369,165 @@ module _ (config : Config) (group : RouteLabels) where
   listed : (m : Map route_labels_cmp Alert) (ls : List LabelSet) → IsStrictlySortedBy label_set_cmp ls → ((l : LabelSet) → has label_set_cmp ls l ≡ (is_in (on_route group.route l) && is_some (get m (on_route group.route l)))) → ls ≡ labels_of_members (members_among config m group)
   listed m ls sorted same = same_from_members label_set_cmp label_set_cmp_total label_set_cmp-IsAntisymmetric ls _ sorted (sorted_among (entries m) (entries-sorted m)) (λ l. same l ∙ sym (has_member m l))
 
--- ---- the members that are listed by their numbers
-
--- the numbers that are listed
-abbrev pub numbers_of_listed : List (Bor LabelSet × ℕ) → List ℕ
-numbers_of_listed members = map (λ member. member.1) members
+-- ---- the members by their numbers
 
 module _ (config : Config) (a : Numbered RouteLabels Alert) (gs : Numbered RouteLabels GroupTimer) (homes : List ℕ) (m : Grouped) (is : IsGrouped config a gs homes m) (group : RouteLabels) where
   -- no member is in a group without a number
-  pub none_listed : number_of route_labels_cmp gs group ≡ None → [] ≡ labels_of_members (members_among config (map_of route_labels_cmp a) group)
+  pub no_members : number_of route_labels_cmp gs group ≡ None → [] ≡ members_among config (map_of route_labels_cmp a) group
   unfolding IsStrictlySortedBy
-  none_listed none = listed config group (map_of route_labels_cmp a) [] tt (λ l. nobody (on_route group.route l) _ _ refl refl)
+  no_members none = empty _ (listed config group (map_of route_labels_cmp a) [] tt (λ l. nobody (on_route group.route l) _ _ refl refl))
     where
+      empty : (ms : List (LabelSet × Alert)) → [] ≡ labels_of_members ms → [] ≡ ms
+      empty [] e = refl
+      empty (x ∷ ms) e = absurd (cc)
+
       nobody : (key : RouteLabels) (x y : Bool) → is_in config group key ≡ x → is_some (get (map_of route_labels_cmp a) key) ≡ y → false ≡ (x && y)
       nobody key true true e h =
-          let by = place_number a key (is.numbered.placed key h) in
+          let by = the_number a is.numbering key h in
           not_none (home_at homes by.0) _ (sym (is.home key by.0 by.1) ∙ ap (number_of route_labels_cmp gs) (tied_key group (group_key config key) e) ∙ none)
       nobody key true false e h = refl
       nobody key false y e h = refl
 
-  module _ (numbered : AreNumbered route_labels_cmp gs) (g : ℕ) (at : number_of route_labels_cmp gs group ≡ Some g) where
-    abbrev pub IsListed : List (Bor LabelSet × ℕ) → Type 0
-    IsListed members = All (IsNumbered a group.route) (map numbered_labels members)
+  module _ (numbering : IsNumbering route_labels_cmp gs) (g : ℕ) (at : number_of route_labels_cmp gs group ≡ Some g) where
+    abbrev IsIn : ℕ → Type 0
+    IsIn n = group_at m n ≡ Some g
 
-    -- the labels of a number that is listed are its own
-    listed_labels : (members : List (Bor LabelSet × ℕ)) → IsListed members → (l : LabelSet) (n : ℕ) → number_of route_labels_cmp a (on_route group.route l) ≡ Some n → IsTrue (list_any (λ x. n == x) (numbers_of_listed members)) → IsTrue (has label_set_cmp (labels_of_numbered members) l)
-    listed_labels [] all l n there h = absurd (true≢false (sym h))
-    listed_labels (x ∷ xs) all l n there h =
-        elim (n == x.1) as (λ b. (n == x.1) ≡ b → IsTrue (b || list_any (λ x. n == x) (numbers_of_listed xs)) → IsTrue (has label_set_cmp (labels_of_numbered (x ∷ xs)) l)) [
+    -- the member of the group at a number
+    record MemberAt (n : ℕ) : Type 0 where
+      labels : LabelSet
+      alert : Alert
+      number : number_of route_labels_cmp a (on_route group.route labels) ≡ Some n
+      value : get (map_of route_labels_cmp a) (on_route group.route labels) ≡ Some alert
+      grouped : group_key config (on_route group.route labels) ≡ group
+
+    the_member : (n : ℕ) → IsIn n → MemberAt n
+    the_member n there =
+        let by = member_of config a gs homes m is group numbering g at n there in
+        let value = the_value (get (map_of route_labels_cmp a) by.0) by.2.0 in
+        let route : by.0.route ≡ group.route = ap (λ (r : RouteLabels). r.route) by.2.1 in
+        let same : on_route group.route by.0.labels ≡ by.0 = λ i. on_route (sym route i) by.0.labels in
+        record {
+          labels = by.0.labels;
+          alert = value.0;
+          number = ap (number_of route_labels_cmp a) same ∙ by.1;
+          value = ap (get (map_of route_labels_cmp a)) same ∙ value.1;
+          grouped = ap (group_key config) same ∙ by.2.1;
+        }
+
+    abbrev pair : (n : ℕ) → IsIn n → LabelSet × Alert
+    pair n there = ((the_member n there).labels, (the_member n there).alert)
+
+    found_at : (n : ℕ) (there : IsIn n) → member_at a n ≡ Some (pair n there)
+    found_at n there =
+        let it = the_member n there in
+        let key = on_route group.route it.labels in
+        ap (option_and_then (λ (k : RouteLabels). option_map (λ alert. (k.labels, alert)) (value_at a.cells n))) (key_at_number route_labels_cmp_total route_labels_cmp-IsAntisymmetric a is.numbering key n it.number)
+        ∙ ap (option_map (λ alert. (it.labels, alert))) (sym (value_at_number route_labels_cmp_total route_labels_cmp-IsAntisymmetric a is.numbering key n it.number) ∙ it.value)
+
+    abbrev members_at : (ns : List ℕ) → AllByRecursion IsIn ns → List (LabelSet × Alert)
+    members_at [] all = []
+    members_at (n ∷ ns) all = pair n all.0 ∷ members_at ns all.1
+
+    found_are : (ns : List ℕ) (all : AllByRecursion IsIn ns) → filter_map (member_at a) ns ≡ members_at ns all
+    found_are [] all = refl
+    found_are (n ∷ ns) all = ap (λ o. cons_option o (filter_map (member_at a) ns)) (found_at n all.0) ∙ ap (λ l. pair n all.0 ∷ l) (found_are ns all.1)
+
+    abbrev HasAlert : LabelSet × Alert → Type 0
+    HasAlert p = with_alert (map_of route_labels_cmp a) group.route p.0 ≡ Some p
+
+    have_alerts : (ns : List ℕ) (all : AllByRecursion IsIn ns) → All HasAlert (members_at ns all)
+    have_alerts [] all = All-nil HasAlert
+    have_alerts (n ∷ ns) all =
+        let it = the_member n all.0 in
+        All-cons HasAlert (pair n all.0) (members_at ns all.1) (ap (option_map (λ alert. (it.labels, alert))) it.value) (have_alerts ns all.1)
+
+    from_alerts : (ps : List (LabelSet × Alert)) → All HasAlert ps → filter_map (with_alert (map_of route_labels_cmp a) group.route) (labels_of_members ps) ≡ ps
+    from_alerts [] all = refl
+    from_alerts (p ∷ ps) all =
+        ap (λ o. cons_option o (filter_map (with_alert (map_of route_labels_cmp a) group.route) (labels_of_members ps))) (All-head HasAlert p ps all)
+        ∙ ap (λ l. p ∷ l) (from_alerts ps (All-tail HasAlert p ps all))
+
+    -- the label set of a number among these is theirs
+    has_labels : (ns : List ℕ) (all : AllByRecursion IsIn ns) (l : LabelSet) (n : ℕ) → number_of route_labels_cmp a (on_route group.route l) ≡ Some n → IsTrue (list_any (λ x. n == x) ns) → IsTrue (has label_set_cmp (labels_of_members (members_at ns all)) l)
+    has_labels [] all l n there h = absurd (true≢false (sym h))
+    has_labels (x ∷ ns) all l n there h =
+        elim (n == x) as (λ b. (n == x) ≡ b → IsTrue (b || list_any (λ x. n == x) ns) → IsTrue (has label_set_cmp (labels_of_members (members_at (x ∷ ns) all)) l)) [
           | true ↦ λ e _.
-              let same : n ≡ x.1 = grind (arith, nat_tests) in
-              let own : number_of route_labels_cmp a (on_route group.route x.0.now) ≡ Some x.1 = All-head (IsNumbered a group.route) (numbered_labels x) (map numbered_labels xs) all in
-              let keys : on_route group.route l ≡ on_route group.route x.0.now = is.numbered.apart (on_route group.route l) (on_route group.route x.0.now) n there (own ∙ ap (λ n. Some n) (sym same)) in
-              ap (λ (r : RouteLabels). eq_by_cmp label_set_cmp r.labels x.0.now || has label_set_cmp (labels_of_numbered xs) l) keys ∙ ap (λ o. is_eq o || has label_set_cmp (labels_of_numbered xs) l) (tied_itself label_set_cmp_total x.0.now)
-          | false ↦ λ _ rest. or_right (eq_by_cmp label_set_cmp l x.0.now) _ (listed_labels xs (All-tail (IsNumbered a group.route) (numbered_labels x) (map numbered_labels xs) all) l n there rest)
+              let it = the_member x all.0 in
+              let same : n ≡ x = grind (arith, nat_tests) in
+              let keys : on_route group.route l ≡ on_route group.route it.labels = one_key route_labels_cmp_total route_labels_cmp-IsAntisymmetric a is.numbering (on_route group.route l) (on_route group.route it.labels) n there (it.number ∙ ap (λ n. Some n) (sym same)) in
+              ap (λ (r : RouteLabels). eq_by_cmp label_set_cmp r.labels it.labels || has label_set_cmp (labels_of_members (members_at ns all.1)) l) keys ∙ ap (λ o. is_eq o || has label_set_cmp (labels_of_members (members_at ns all.1)) l) (tied_itself label_set_cmp_total it.labels)
+          | false ↦ λ _ rest. or_right (eq_by_cmp label_set_cmp l (the_member x all.0).labels) _ (has_labels ns all.1 l n there rest)
         ] refl h
-      where
-        or_right : (a b : Bool) → IsTrue b → IsTrue (a || b)
-        or_right true b h = refl
-        or_right false b h = h
 
-    -- a label set that is listed has a number that is
-    listed_number : (members : List (Bor LabelSet × ℕ)) → IsListed members → (l : LabelSet) → IsTrue (has label_set_cmp (labels_of_numbered members) l) → (n : ℕ) × (IsTrue (list_any (λ x. n == x) (numbers_of_listed members)) × (number_of route_labels_cmp a (on_route group.route l) ≡ Some n))
-    listed_number [] all l h = absurd (true≢false (sym h))
-    listed_number (x ∷ xs) all l h =
-        elim (eq_by_cmp label_set_cmp l x.0.now) as (λ b. eq_by_cmp label_set_cmp l x.0.now ≡ b → IsTrue (b || has label_set_cmp (labels_of_numbered xs) l) → (n : ℕ) × (IsTrue (list_any (λ y. n == y) (numbers_of_listed (x ∷ xs))) × (number_of route_labels_cmp a (on_route group.route l) ≡ Some n))) [
+    -- a label set of theirs has a number among these
+    has_number : (ns : List ℕ) (all : AllByRecursion IsIn ns) (l : LabelSet) → IsTrue (has label_set_cmp (labels_of_members (members_at ns all)) l) → IsTrue (is_in config group (on_route group.route l) && is_some (get (map_of route_labels_cmp a) (on_route group.route l)))
+    has_number [] all l h = absurd (true≢false (sym h))
+    has_number (x ∷ ns) all l h =
+        let it = the_member x all.0 in
+        elim (eq_by_cmp label_set_cmp l it.labels) as (λ b. eq_by_cmp label_set_cmp l it.labels ≡ b → IsTrue (b || has label_set_cmp (labels_of_members (members_at ns all.1)) l) → IsTrue (is_in config group (on_route group.route l) && is_some (get (map_of route_labels_cmp a) (on_route group.route l)))) [
           | true ↦ λ e _.
-              let same : l ≡ x.0.now = label_set_cmp-IsAntisymmetric l x.0.now (equal_of _ e) in
-              let itself : (x.1 == x.1) ≡ true = grind (arith, nat_tests) in
-              (x.1, (ap (λ b. b || list_any (λ y. x.1 == y) (numbers_of_listed xs)) itself, ap (λ l. number_of route_labels_cmp a (on_route group.route l)) same ∙ All-head (IsNumbered a group.route) (numbered_labels x) (map numbered_labels xs) all))
-          | false ↦ λ _ rest.
-              let by = listed_number xs (All-tail (IsNumbered a group.route) (numbered_labels x) (map numbered_labels xs) all) l rest in
-              (by.0, (or_right (by.0 == x.1) _ by.1.0, by.1.1))
+              let same : it.labels ≡ l = sym (label_set_cmp-IsAntisymmetric l it.labels (equal_of _ e)) in
+              subst (λ l. IsTrue (is_in config group (on_route group.route l) && is_some (get (map_of route_labels_cmp a) (on_route group.route l)))) same
+              (both _ _ (ap (λ r. eq_by_cmp route_labels_cmp r group) it.grouped ∙ ap is_eq (tied_itself route_labels_cmp_total group)) (ap is_some it.value))
+          | false ↦ λ _ rest. has_number ns all.1 l rest
         ] refl h
-      where
-        or_right : (a b : Bool) → IsTrue b → IsTrue (a || b)
-        or_right true b h = refl
-        or_right false b h = h
 
-    apart_from : (x : Bor LabelSet × ℕ) (xs : List (Bor LabelSet × ℕ)) → number_of route_labels_cmp a (on_route group.route x.0.now) ≡ Some x.1 → IsListed xs → AllByRecursion (λ y. (x.1 == y) ≡ false) (numbers_of_listed xs)
-        → AllByRecursion (λ y. eq_by_cmp label_set_cmp x.0.now y ≡ false) (labels_of_numbered xs)
-    apart_from x [] own all differ = tt
-    apart_from x (y ∷ ys) own all differ = (
-      elim (eq_by_cmp label_set_cmp x.0.now y.0.now) as (λ b. eq_by_cmp label_set_cmp x.0.now y.0.now ≡ b → b ≡ false) [
-        | true ↦ λ e.
-            let same : x.0.now ≡ y.0.now = label_set_cmp-IsAntisymmetric x.0.now y.0.now (equal_of _ e) in
-            let number : x.1 ≡ y.1 = same_Some x.1 y.1 (sym own ∙ ap (λ l. number_of route_labels_cmp a (on_route group.route l)) same ∙ All-head (IsNumbered a group.route) (numbered_labels y) (map numbered_labels ys) all) in
-            let other = differ.0 in
-            absurd (grind (arith, nat_tests))
-        | false ↦ λ _. refl
-      ] refl,
-      apart_from x ys own (All-tail (IsNumbered a group.route) (numbered_labels y) (map numbered_labels ys) all) differ.1,
-    )
+    apart_from : (x : ℕ) (there : IsIn x) (ns : List ℕ) (all : AllByRecursion IsIn ns) → AllByRecursion (λ y. (x == y) ≡ false) ns → AllByRecursion (λ y. eq_by_cmp label_set_cmp (the_member x there).labels y ≡ false) (labels_of_members (members_at ns all))
+    apart_from x there [] all differ = tt
+    apart_from x there (y ∷ ns) all differ =
+        let own = the_member x there in
+        let it = the_member y all.0 in (
+          elim (eq_by_cmp label_set_cmp own.labels it.labels) as (λ b. eq_by_cmp label_set_cmp own.labels it.labels ≡ b → b ≡ false) [
+            | true ↦ λ e.
+                let same : own.labels ≡ it.labels = label_set_cmp-IsAntisymmetric own.labels it.labels (equal_of _ e) in
+                let number : x ≡ y = same_Some x y (sym own.number ∙ ap (λ l. number_of route_labels_cmp a (on_route group.route l)) same ∙ it.number) in
+                let other = differ.0 in
+                absurd (grind (arith, nat_tests))
+            | false ↦ λ _. refl
+          ] refl,
+          apart_from x there ns all.1 differ.1,
+        )
 
     -- different numbers have different label sets
-    labels_apart : (xs : List (Bor LabelSet × ℕ)) → IsListed xs → IsDistinct (λ (a b : ℕ). a == b) (numbers_of_listed xs) → IsDistinct (eq_by_cmp label_set_cmp) (labels_of_numbered xs)
+    labels_apart : (ns : List ℕ) (all : AllByRecursion IsIn ns) → IsDistinct (λ (a b : ℕ). a == b) ns → IsDistinct (eq_by_cmp label_set_cmp) (labels_of_members (members_at ns all))
     unfolding IsDistinct
     labels_apart [] all d = tt
-    labels_apart (x ∷ xs) all d = (
-      apart_from x xs (All-head (IsNumbered a group.route) (numbered_labels x) (map numbered_labels xs) all) (All-tail (IsNumbered a group.route) (numbered_labels x) (map numbered_labels xs) all) d.0,
-      labels_apart xs (All-tail (IsNumbered a group.route) (numbered_labels x) (map numbered_labels xs) all) d.1,
-    )
+    labels_apart (n ∷ ns) all d = (apart_from n all.0 ns all.1 d.0, labels_apart ns all.1 d.1)
 
-    -- the members of the group are those of its numbers, in order of their labels
-    module _ (numbers : List ℕ) (those : AreNumbersOf m g numbers) (found members : List (Bor LabelSet × ℕ)) (found_are : numbers_of_listed found ≡ numbers) (all : IsListed found) (moved : IsPermutation found members)
-        (up : IsSorted (λ (x y : Bor LabelSet × ℕ). ordering_then (label_set_cmp x.0.now y.0.now) (nat_cmp x.1 y.1)) members) where
-      pub all_listed : IsListed members
-      all_listed = All-permutation (IsNumbered a group.route) (map numbered_labels found) (map numbered_labels members) (IsPermutation-map numbered_labels found members moved) all
+    -- the members of the group are those at its numbers, in order of their labels
+    pub members_found : (numbers : List ℕ) → AreNumbersOf m g numbers → (found members : List (LabelSet × Alert)) → found ≡ filter_map (member_at a) numbers → IsPermutation found members → IsSortedBy (λ x y. is_lt (label_set_cmp x.0 y.0)) members
+        → members ≡ members_among config (map_of route_labels_cmp a) group
+    members_found numbers those found members found_is moved up =
+        sym (from_alerts members (All-permutation HasAlert _ members moved_at (have_alerts numbers all)))
+        ∙ ap (filter_map (with_alert (map_of route_labels_cmp a) group.route)) (listed config group (map_of route_labels_cmp a) (labels_of_members members) in_order has_listed)
+        ∙ members_are config group (map_of route_labels_cmp a)
+      where
+        all : AllByRecursion IsIn numbers
+        all = all_among IsIn numbers those.members
 
-      same_numbers : IsPermutation numbers (numbers_of_listed members)
-      same_numbers = subst (λ ns. IsPermutation ns (numbers_of_listed members)) found_are (IsPermutation-map (λ (x : Bor LabelSet × ℕ). x.1) found members moved)
+        moved_at : IsPermutation (members_at numbers all) members
+        moved_at = subst (λ l. IsPermutation l members) (found_is ∙ found_are numbers all) moved
 
-      distinct_numbers : IsDistinct (λ (a b : ℕ). a == b) (numbers_of_listed members)
-      distinct_numbers = IsDistinct-IsPermutation (λ (a b : ℕ). a == b) flips numbers (numbers_of_listed members) same_numbers those.distinct
-        where
-          flips : (x y : ℕ) → (x == y) ≡ (y == x)
-          flips x y = alike (x == y) (y == x) (λ e. grind (arith, nat_tests)) (λ e. grind (arith, nat_tests))
+        labels_moved : IsPermutation (labels_of_members (members_at numbers all)) (labels_of_members members)
+        labels_moved = IsPermutation-map (λ (p : LabelSet × Alert). p.0) (members_at numbers all) members moved_at
 
-      in_order : IsStrictlySortedBy label_set_cmp (labels_of_numbered members)
-      in_order = strictly label_set_cmp_total (eq_by_cmp label_set_cmp) (λ x y. refl) numbered_labels members up (labels_apart members all_listed distinct_numbers)
+        distinct : IsDistinct (eq_by_cmp label_set_cmp) (labels_of_members members)
+        distinct = IsDistinct-IsPermutation (eq_by_cmp label_set_cmp) (eq_by_cmp_equiv label_set_cmp_total).symm (labels_of_members (members_at numbers all)) (labels_of_members members) labels_moved (labels_apart numbers all those.distinct)
 
-      has_listed : (l : LabelSet) → has label_set_cmp (labels_of_numbered members) l ≡ (is_in config group (on_route group.route l) && is_some (get (map_of route_labels_cmp a) (on_route group.route l)))
-      has_listed l =
-          let key = on_route group.route l in
-          alike (has label_set_cmp (labels_of_numbered members) l) (is_in config group key && is_some (get (map_of route_labels_cmp a) key))
-          (λ h.
-          let by = listed_number members all_listed l h in
-          let there : group_at m by.0 ≡ Some g = those.members by.0 (list_any-IsPermutation (λ x. by.0 == x) numbers (numbers_of_listed members) same_numbers ∙ by.1.0) in
-          let member = member_of config a gs homes m is group numbered g at by.0 there in
-          let same : member.0 ≡ key = is.numbered.apart member.0 key by.0 member.1 by.1.1 in
-          both _ _ (subst (λ r. is_in config group r ≡ true) same (ap (λ r. eq_by_cmp route_labels_cmp r group) member.2.1 ∙ ap is_eq (tied_itself route_labels_cmp_total group)))
-          (subst (λ r. is_some (get (map_of route_labels_cmp a) r) ≡ true) same member.2.0))
-          (λ h.
-          let by = number_in config a gs homes m is group numbered g at key (other_of _ _ h) (tied_key group (group_key config key) (one_of _ _ h)) in
-          listed_labels members all_listed l by.0 by.1 (sym (list_any-IsPermutation (λ x. by.0 == x) numbers (numbers_of_listed members) same_numbers) ∙ those.all by.0 by.2))
+        in_order : IsStrictlySortedBy label_set_cmp (labels_of_members members)
+        in_order = strictly label_set_cmp_total (eq_by_cmp label_set_cmp) (λ x y. refl) (λ (p : LabelSet × Alert). (p.0, 0)) members (λ k d low high. same_less (label_set_cmp _ _) ∙ up k d low high) distinct
+          where
+            same_less : (r : Ordering) → is_lt (ordering_then r (nat_cmp 0 0)) ≡ is_lt r
+            same_less Less = refl
+            same_less Equal = ap is_lt (tied_itself nat_cmp_total 0)
+            same_less Greater = refl
 
-      pub labels_found : labels_of_numbered members ≡ labels_of_members (members_among config (map_of route_labels_cmp a) group)
-      labels_found = listed config group (map_of route_labels_cmp a) (labels_of_numbered members) in_order has_listed
-
--- an item of a list is among it
-pub among_at : (xs : List ℕ) (i d : ℕ) → i < length xs → IsTrue (list_any (λ m. get_or xs i d == m) xs)
-among_at [] i d h = absurd (omega arith)
-among_at (x ∷ xs) zero d h = ap (λ b. b || list_any (λ m. x == m) xs) (itself x)
-  where
-    itself : (n : ℕ) → (n == n) ≡ true
-    itself n = grind (arith, nat_tests)
-among_at (x ∷ xs) (suc i) d h = or_right (get_or xs i d == x) _ (among_at xs i d (omega arith))
-  where
-    or_right : (a b : Bool) → IsTrue b → IsTrue (a || b)
-    or_right true b h = refl
-    or_right false b h = h
-
--- ---- copies of members
-
--- one more member with its alert
-pub member_more : (m : Map route_labels_cmp Alert) (route : ℕ) (members : List (Bor LabelSet × ℕ)) (i : ℕ) (member : Bor LabelSet × ℕ) (found more total : List (LabelSet × Alert)) → i < length members → member ≡ get_or members i member
-    → more ≡ found ++ cons_option (with_alert m route member.0.now) [] → found ++ filter_map (with_alert m route) (labels_of_numbered (drop i members)) ≡ total → more ++ filter_map (with_alert m route) (labels_of_numbered (drop (i + 1) members)) ≡ total
-member_more m route members i member found more total less is gives so_far =
-    let rest = filter_map (with_alert m route) (labels_of_numbered (drop (i + 1) members)) in
-    ap (λ l. l ++ rest) gives ∙ append_assoc found (cons_option (with_alert m route member.0.now) []) rest
-    ∙ ap (λ l. found ++ l) (at_front (with_alert m route member.0.now) rest
-    ∙ ap (λ (x : Bor LabelSet × ℕ). cons_option (with_alert m route x.0.now) rest) is
-    ∙ sym (at_drop_more (λ l. filter_map (with_alert m route) (labels_of_numbered l)) members i member less))
-    ∙ so_far
-  where
-    at_front : {X : Type 0} (o : Option X) (rest : List X) → cons_option o [] ++ rest ≡ cons_option o rest
-    at_front None rest = refl
-    at_front (Some x) rest = refl
-
-pub numbered_among : (a : Numbered RouteLabels Alert) (route : ℕ) (members : List (Bor LabelSet × ℕ)) (i : ℕ) (member : Bor LabelSet × ℕ) → i < length members → member ≡ get_or members i member → All (IsNumbered a route) (map numbered_labels members) → IsNumbered a route (numbered_labels member)
-numbered_among a route members i member less is all =
-    subst (λ (x : Bor LabelSet × ℕ). IsNumbered a route (numbered_labels x)) (sym is) (All-get_or (λ (x : Bor LabelSet × ℕ). IsNumbered a route (numbered_labels x)) members i member less (of_each members all))
-  where
-    of_each : (xs : List (Bor LabelSet × ℕ)) → All (IsNumbered a route) (map numbered_labels xs) → All (λ (x : Bor LabelSet × ℕ). IsNumbered a route (numbered_labels x)) xs
-    of_each [] h = All-nil (λ (x : Bor LabelSet × ℕ). IsNumbered a route (numbered_labels x))
-    of_each (x ∷ xs) h =
-        All-cons (λ (y : Bor LabelSet × ℕ). IsNumbered a route (numbered_labels y)) x xs (All-head (IsNumbered a route) (numbered_labels x) (map numbered_labels xs) h)
-        (of_each xs (All-tail (IsNumbered a route) (numbered_labels x) (map numbered_labels xs) h))
+        has_listed : (l : LabelSet) → has label_set_cmp (labels_of_members members) l ≡ (is_in config group (on_route group.route l) && is_some (get (map_of route_labels_cmp a) (on_route group.route l)))
+        has_listed l =
+            let key = on_route group.route l in
+            sym (list_any-IsPermutation (eq_by_cmp label_set_cmp l) (labels_of_members (members_at numbers all)) (labels_of_members members) labels_moved)
+            ∙ alike (has label_set_cmp (labels_of_members (members_at numbers all)) l) (is_in config group key && is_some (get (map_of route_labels_cmp a) key)) (has_number numbers all l)
+            (λ h.
+            let by = number_in config a gs homes m is group numbering g at key (other_of (is_in config group key) (is_some (get (map_of route_labels_cmp a) key)) h) (tied_key group (group_key config key) (one_of (is_in config group key) (is_some (get (map_of route_labels_cmp a) key)) h)) in
+            has_labels numbers all l by.0 by.1 (those.all by.0 by.2))

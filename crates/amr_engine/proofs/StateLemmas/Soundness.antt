@@ -26,7 +26,7 @@ use Rattle.amr_engine.specs.declared.state.tables.Tables.{Tables}
 use Rattle.amr_engine.specs.State.Records.{after_change, put_back, is_covered_by, has_entry, IsNoNotification, NotesEntered}
 use Rattle.amr_config.specs.RouteLabels.{route_labels_cmp, route_labels_cmp-IsAntisymmetric}
 use Rattle.amr_engine.specs.State.State.{State, log_key_cmp, log_key_cmp-IsAntisymmetric}
-use Rattle.amr_engine.specs.State.Fitting.{IsAllowed}
+use Rattle.amr_engine.specs.State.Allowed.{IsAllowed}
 use Rattle.amr_engine.specs.State.Kept.{before_open_record}
 use Rattle.amr_engine.specs.State.Rostered.{Rostered}
 use Rattle.amr_engine.specs.declared.state.store.Store.TheInside.{Inside}

@@ -24,7 +24,7 @@ use Rattle.amr_engine.specs.declared.state.due.Kind.{Kind}
 use Rattle.amr_engine.specs.declared.state.due.Kind.TheVariants.{AlertRemoval, GroupRemoval, GroupFlush}
 use Rattle.amr_config.specs.RouteLabels.{on_route, route_labels_cmp, route_labels_cmp_total, route_labels_cmp-IsAntisymmetric}
 use Rattle.amr_engine.specs.State.Dues.{Due, kind_rank, due_cmp, dues_of, alert_removal_at, alert_removal_of, group_removal_of, flush_of}
-use Rattle.amr_engine.specs.State.Timed.{alert_moment, flush_moment, removal_moment}
+use Rattle.amr_engine.specs.State.Timed.{alert_moment, group_moment}
 
 -- ---- truth values
 
@@ -117,13 +117,13 @@ alert_pick GroupFlush z alert = None
 
 abbrev removal_pick : Kind → Option GroupTimer → Option Moment
 removal_pick AlertRemoval timer = None
-removal_pick GroupRemoval timer = removal_moment timer
+removal_pick GroupRemoval timer = group_moment GroupRemoval timer
 removal_pick GroupFlush timer = None
 
 abbrev flush_pick : Kind → Option GroupTimer → Option Moment
 flush_pick AlertRemoval timer = None
 flush_pick GroupRemoval timer = None
-flush_pick GroupFlush timer = flush_moment timer
+flush_pick GroupFlush timer = group_moment GroupFlush timer
 
 abbrev pub due_moment : Alerts → GroupTimers → Kind → ℕ → LabelSet → Option Moment
 due_moment a c AlertRemoval route labels = alert_pick AlertRemoval (nat_cmp route 0) (get a labels)

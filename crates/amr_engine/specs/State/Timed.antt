@@ -1,14 +1,14 @@
 -- The moments of the pending timers of alerts and groups, by number.
-use Rattle.std.specs.Prelude.{◌≡◌, ◌<◌, ℕ, false, IsTrue, List, length, Option, Some, None, is_some, option_map, nat_lt, if◌then◌else◌}
+use Rattle.std.specs.Prelude.{◌≡◌, ◌<◌, ℕ, false, IsTrue, List, Option, Some, None, option_map, nat_lt, if◌then◌else◌}
 use Rattle.std.specs.Option.{option_and_then}
 use Rattle.std.specs.declared.cmp.Ordering.{Ordering}
 use Rattle.std.specs.Ordering.{is_gt}
 use Rattle.amr_labels.specs.Labels.{LabelSet, label_set_cmp}
-use Rattle.amr_labels.specs.Map.{get}
 use Rattle.amr_time.specs.Time.{Moment}
 use Rattle.amr_rules.specs.declared.alert.Alert.{Alert}
-use Rattle.amr_tables.specs.Numbered.{Numbered, map_of, has_place, number_of, rank_of, IsNumber}
-use Rattle.amr_tables.specs.Earliest.{Earliest, moment_at, IsHeld, IsOrdered}
+use Rattle.amr_tables.specs.Places.{value_at}
+use Rattle.amr_tables.specs.Numbered.{Numbered, number_of, rank_of, IsNumber, IsNumbering}
+use Rattle.amr_tables.specs.Earliest.{Earliest, room, IsHeld, IsOrdered}
 use Rattle.amr_tables.specs.Members.{has}
 use Rattle.amr_engine.specs.declared.state.notification.GroupTimer.{GroupTimer}
 use Rattle.amr_config.specs.declared.route_labels.RouteLabels.{RouteLabels}
@@ -26,45 +26,34 @@ use Rattle.amr_engine.specs.State.Dues.{Due, due_at, due_cmp, alert_removal_at, 
 abbrev pub alert_moment : Option Alert → Option Moment
 alert_moment = option_map alert_removal_at
 
--- when a group is flushed
-abbrev pub flush_moment : Option GroupTimer → Option Moment
-flush_moment = option_map (λ timer. timer.next_flush)
-
--- when a group is removed
-abbrev pub removal_moment : Option GroupTimer → Option Moment
-removal_moment = option_and_then group_removal_at
-
 -- when the group's timer of a kind is due
 abbrev pub group_moment : Kind → Option GroupTimer → Option Moment
 group_moment AlertRemoval timer = None
-group_moment GroupRemoval timer = removal_moment timer
-group_moment GroupFlush timer = flush_moment timer
+group_moment GroupRemoval timer = option_and_then group_removal_at timer
+group_moment GroupFlush timer = option_map (λ timer. timer.next_flush) timer
+
+-- the moment of the value at a number
+abbrev pub moments_in : {K V : Type 0} → (Option V → Option Moment) → Numbered K V → ℕ → Option Moment
+moments_in moment_of t n = moment_of (value_at t.cells n)
 
 module _ {K V : Type 0} (R : K → K → Ordering) where
-  -- the key of each value has a number, and no other key has the same
-  pub record AreNumbered (t : Numbered K V) : Type 0 where
-    pub placed : (key : K) → IsTrue (is_some (get (map_of R t) key)) → IsTrue (has_place R t key)
-    pub apart : (a b : K) (n : ℕ) → number_of R t a ≡ Some n → number_of R t b ≡ Some n → a ≡ b
+  -- The moments are those of the values at the numbers, and of several at one moment the keys
+  -- decide. None is held of a number that no key has.
+  pub record IsScheduled (moment_of : Option V → Option Moment) (t : Numbered K V) (earliest : Earliest) : Type 0 where
+    pub named : (n : ℕ) → IsHeld earliest n → IsNumber R t n
+    pub room : (key : K) (n : ℕ) → number_of R t key ≡ Some n → n < room earliest
+    pub ordered : IsOrdered (rank_of R t) (moments_in moment_of t) earliest
 
-  -- The moment of each key's number is that of the key's value. No moment is held of a number that
-  -- no key has.
-  pub record IsScheduled (moment_of : Option V → Option Moment) (t : Numbered K V) (moments : Earliest) : Type 0 where
-    pub timed : (key : K) (n : ℕ) → number_of R t key ≡ Some n → moment_at moments n ≡ moment_of (get (map_of R t) key)
-    pub named : (n : ℕ) → IsHeld moments n → IsNumber R t n
-    pub room : (key : K) (n : ℕ) → number_of R t key ≡ Some n → n < length moments.moments
-    pub ordered : IsOrdered (rank_of R t) moments
-
--- The moments are those at which the alerts are removed, and of several at one moment the names
--- decide.
+-- the alerts are numbered, and removed at these moments
 pub record AreRemoved (alerts : Numbered LabelSet Alert) (removals : Earliest) : Type 0 where
-  pub numbered : AreNumbered label_set_cmp alerts
+  pub numbering : IsNumbering label_set_cmp alerts
   pub removed : IsScheduled label_set_cmp alert_moment alerts removals
 
--- The moments are those of the timers, and of several at one moment the names decide.
+-- the groups are numbered, and removed and flushed at these moments
 pub record AreTimed (timers : Numbered RouteLabels GroupTimer) (removals flushes : Earliest) : Type 0 where
-  pub numbered : AreNumbered route_labels_cmp timers
-  pub removed : IsScheduled route_labels_cmp removal_moment timers removals
-  pub flushed : IsScheduled route_labels_cmp flush_moment timers flushes
+  pub numbering : IsNumbering route_labels_cmp timers
+  pub removed : IsScheduled route_labels_cmp (group_moment GroupRemoval) timers removals
+  pub flushed : IsScheduled route_labels_cmp (group_moment GroupFlush) timers flushes
 
 -- ---- the first timer
 

@@ -7,14 +7,14 @@ ghost use Rattle.amr_labels.specs.Labels.{label_set_cmp};
 ghost use Rattle.amr_labels.specs.Map as map;
 ghost use Rattle.amr_labels.specs.Set as set;
 ghost use Rattle.amr_tables.specs.Places.{values_of};
-ghost use Rattle.amr_tables.specs.Numbered.{map_of, number_of, EntersAt, KeepsPlaces, SamePlaces, SameEntered, NoneEntered, IsMarkOf, IsNumber, IsSetAt, IsValueOf};
+ghost use Rattle.amr_tables.specs.Numbered.{map_of, number_of, EntersAt, KeepsPlaces, SamePlaces, SameEntered, NoneEntered, IsMarkOf, IsNumber, IsNumbering, IsSetAt, IsValueOf};
 ghost use Rattle.amr_rules.specs.Muting.{sources_of};
 ghost use Rattle.amr_engine.specs.Indexes.RuleSources.{pairs_of, stored_of};
 ghost use Rattle.amr_config.specs.RouteLabels.{route_labels_cmp};
 ghost use Rattle.amr_engine.specs.State.Dues.{dues_of};
 ghost use Rattle.amr_engine.specs.declared.state.due.Kind.TheVariants.{AlertRemoval};
 ghost use Rattle.amr_engine.specs.declared.state.notification.GroupTimer.{GroupTimer};
-ghost use Rattle.amr_engine.specs.State.Timed.{AreNumbered, IsScheduled, IsFirstOfKind, alert_moment, due_of};
+ghost use Rattle.amr_engine.specs.State.Timed.{IsScheduled, IsFirstOfKind, alert_moment, due_of};
 
 use crate::indexes::RuleSources;
 use crate::state::due::alert_removal;
@@ -22,8 +22,9 @@ use crate::state::pending::{Pending, TimerRef, count_with_next};
 use amr_config::stated::{InhibitRule, RuleMatch};
 use amr_labels::{LabelMap, Labels, Shared};
 use amr_rules::{Alert, AlertStore, is_agreeing};
-use amr_tables::{Earliest, Keyed, Values};
+use amr_tables::{Earliest, Keyed, Schedule, Values};
 use std::alloc::{AllocError, Global};
+use std::cmp::Ordering;
 use std::marker::Model;
 
 /// The stored alerts by label set. The sources know each label set that has a place. A place is
@@ -104,7 +105,8 @@ impl AlertTable {
         ensures { (timers : map.Map route_labels_cmp GroupTimer) → IsFirstOfKind AlertRemoval
             (dues_of (map_of label_set_cmp self.now) timers) (option_map due_of result) }
     {
-        first_alert(&self.alerts, &self.removals)
+        let alerts = &self.alerts;
+        AlertRemovals { alerts }.first(&self.removals)
     }
 
     /// Works out which label sets can be sources of those rules that have a label set as a target,
@@ -138,9 +140,12 @@ impl AlertTable {
         ensures places { SamePlaces label_set_cmp self.old self.new }
         ensures entered { EntersAt label_set_cmp self.old number self.new }
     {
-        let moment = alert_moment(alert);
         let was_entered = self.alerts.swap_at(number, alert);
-        self.removals.set(&self.alerts, number, moment);
+        // `alert` is the former one now.
+        let former = alert_moment(alert.as_ref());
+        let alerts = &self.alerts;
+        self.removals
+            .update(&AlertRemovals { alerts }, number, former);
         was_entered
     }
 
@@ -170,7 +175,8 @@ impl AlertTable {
     {
         let copy = labels.clone()?;
         let count = count_with_next(&self.alerts)?;
-        self.removals.reserve(&self.alerts, count)?;
+        let alerts = &self.alerts;
+        self.removals.reserve(&AlertRemovals { alerts }, count)?;
         self.sources.add(labels.clone()?)?;
         let number = self.alerts.make_place(copy)?;
         Ok(number)
@@ -250,32 +256,53 @@ fn cache_sides(sources: &mut RuleSources, rules: &[InhibitRule], matched: &[Rule
     }
 }
 
-/// Returns the first removal of an alert, given the moments of all.
-#[inline(always)]
-fn first_alert<'a>(
+/// The removals of alerts. Of several at one moment, the label sets decide which is first.
+#[derive(Clone, Copy)]
+struct AlertRemovals<'a> {
     alerts: &'a Keyed<Labels, Shared<Alert>>,
-    removals: &Earliest,
-) -> Option<Pending<'a>>
-    requires numbered { AreNumbered label_set_cmp alerts.now }
-    requires scheduled { IsScheduled label_set_cmp alert_moment alerts.now removals.now }
-    ensures { (timers : map.Map route_labels_cmp GroupTimer) → IsFirstOfKind AlertRemoval
-        (dues_of (map_of label_set_cmp alerts.now) timers) (option_map due_of result) }
-{
-    let number = removals.first(alerts)?;
-    let moment = removals.at(number)?;
-    let labels = alerts.key_at(number)?;
-    Some(Pending {
-        moment,
-        timer: TimerRef::AlertRemoval(labels),
-    })
+}
+
+impl Schedule for AlertRemovals<'_> {
+    ghost use Rattle.amr_labels.specs.Labels.{label_set_cmp};
+    ghost use Rattle.amr_tables.specs.Numbered.{rank_of};
+    ghost use Rattle.amr_engine.specs.State.Timed.{alert_moment, moments_in};
+
+    ghost rank = { λ s. rank_of label_set_cmp s.alerts.now };
+
+    ghost moments = { λ s. moments_in alert_moment s.alerts.now };
+
+    fn compare(&self, a: usize, b: usize) -> Ordering {
+        self.alerts.compare_at(a, b)
+    }
+
+    fn moment(&self, number: usize) -> Option<u128> {
+        alert_moment(self.alerts.at(number))
+    }
+}
+
+impl<'a> AlertRemovals<'a> {
+    /// Returns the first of the removals.
+    #[inline(always)]
+    fn first(self, earliest: &Earliest) -> Option<Pending<'a>>
+        requires numbering { IsNumbering label_set_cmp self.alerts.now }
+        requires scheduled { IsScheduled label_set_cmp alert_moment self.alerts.now earliest.now }
+        ensures { (timers : map.Map route_labels_cmp GroupTimer) → IsFirstOfKind AlertRemoval
+            (dues_of (map_of label_set_cmp self.entry.alerts.now) timers)
+            (option_map due_of result) }
+    {
+        let number = earliest.first(&self)?;
+        let moment = self.moment(number)?;
+        let labels = self.alerts.key_at(number)?;
+        Some(Pending {
+            moment,
+            timer: TimerRef::AlertRemoval(labels),
+        })
+    }
 }
 
 /// Returns when an alert is removed, in nanoseconds since 1970, or `None` without an alert.
-fn alert_moment(alert: &Option<Shared<Alert>>) -> Option<u128>
-    ensures { result ≡ alert_moment alert.now }
+fn alert_moment(alert: Option<&Shared<Alert>>) -> Option<u128>
+    ensures { result ≡ alert_moment (option_copied alert.entry) }
 {
-    match alert {
-        None => None,
-        Some(alert) => Some(alert_removal(alert.get())),
-    }
+    Some(alert_removal(alert?.get()))
 }

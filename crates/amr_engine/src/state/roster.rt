@@ -1,32 +1,33 @@
 //! The configuration in force with the groups: their timers and their members. `Store` changes it.
 //! The group of a member depends on the configuration, so both are kept together. This is all that a
 //! change of the configuration drops.
-ghost use Rattle.std.specs.Prelude.{◌≡◌, ◌≢◌, ◌<◌, ◌≤◌, ◌++◌, [], ℕ, Some, None, length, map, option_map, OnOk, IfOk};
+ghost use Rattle.std.specs.Prelude.{◌≡◌, ◌<◌, ◌≤◌, ◌++◌, [], ℕ, Some, None, length, option_map, OnOk, IfOk};
 ghost use Rattle.amr_labels.specs.Labels.{label_set_cmp};
 ghost use Rattle.amr_labels.specs.Map as map;
 ghost use Rattle.amr_config.specs.Groups.{groups_of};
 ghost use Rattle.amr_config.specs.Stated.RuleMatches.{rule_matches};
 ghost use Rattle.amr_tables.specs.Numbered.{map_of, number_of, IsMarkOf, IsNumber, IsSetAt, IsValueOf, KeepsPlaces, SamePlaces, EntersAt, SameEntered, NoneEntered};
-ghost use Rattle.std.specs.List.{All, filter_map, cons_option};
+ghost use Rattle.std.specs.List.{cons_option};
 ghost use Rattle.amr_config.specs.RouteLabels.{route_labels_cmp};
 ghost use Rattle.amr_engine.specs.State.State.{group_key, members_among};
-ghost use Rattle.amr_engine.specs.State.Dues.{dues_of, kind_of, group_of};
-ghost use Rattle.amr_engine.specs.declared.state.due.Kind.TheVariants.{AlertRemoval, GroupRemoval, GroupFlush};
-ghost use Rattle.amr_engine.specs.State.Timed.{AreNumbered, IsScheduled, IsFirstOfKind, flush_moment, removal_moment, group_moment, timer_of, due_of};
-ghost use Rattle.amr_engine.specs.State.Rostered.{home_at, labels_of_members, labels_of_numbered, numbered_labels, with_alert, IsNumbered};
+ghost use Rattle.amr_engine.specs.State.Dues.{dues_of};
+ghost use Rattle.amr_engine.specs.declared.state.due.Kind.TheVariants.{GroupRemoval, GroupFlush};
+ghost use Rattle.amr_engine.specs.State.Timed.{IsFirstOfKind, due_of};
+ghost use Rattle.amr_engine.specs.State.Rostered.{home_at, member_at};
 
-use crate::state::due::{Kind, group_removal};
+use crate::state::due::Kind;
+use crate::state::group_timers::{GroupTimers, group_moment};
 use crate::state::keys::group_key;
 use crate::state::members::Member;
 use crate::state::notification::GroupTimer;
-use crate::state::pending::{Pending, TimerRef, count_with_next};
+use crate::state::pending::{Pending, count_with_next};
 use amr_config::stated::RuleMatch;
 use amr_config::{Config, RouteLabels, Router};
 use amr_labels::{Labels, Listing, Shared};
 use amr_rules::Alert;
 use amr_tables::{Earliest, Grouped, Keyed};
-use amr_time::Moment;
 use std::alloc::{AllocError, Global};
+use std::cmp::Ordering;
 use std::marker::Model;
 use std::mem;
 
@@ -136,7 +137,9 @@ impl Roster {
         ensures { (alerts : map.Map label_set_cmp Alert) → IsFirstOfKind GroupRemoval
             (dues_of alerts (map_of route_labels_cmp self.now.timers)) (option_map due_of result) }
     {
-        first_group(&self.timers, &self.removals, Kind::GroupRemoval)
+        let kind = Kind::GroupRemoval;
+        let timers = &self.timers;
+        GroupTimers { timers, kind }.first(&self.removals)
     }
 
     /// Returns the first flush of a group.
@@ -144,7 +147,9 @@ impl Roster {
         ensures { (alerts : map.Map label_set_cmp Alert) → IsFirstOfKind GroupFlush
             (dues_of alerts (map_of route_labels_cmp self.now.timers)) (option_map due_of result) }
     {
-        first_group(&self.timers, &self.flushes, Kind::GroupFlush)
+        let kind = Kind::GroupFlush;
+        let timers = &self.timers;
+        GroupTimers { timers, kind }.first(&self.flushes)
     }
 
     /// Returns the members of a group, by labels. Its time doesn't grow with the number of members
@@ -154,36 +159,19 @@ impl Roster {
             ≡ members_among self.now.config (map_of route_labels_cmp self.now.placements)
             group.now) }
     {
-        let members = self.numbered_members(group)?;
-        with_alerts(
-            self.alloc,
-            &self.placements,
-            group.route,
-            members.as_slice(),
-        )
-    }
-
-    /// Returns the label sets of the members of a group, in order, with the numbers of their places.
-    fn numbered_members(&self, group: &RouteLabels) -> Result<Vec<(&Labels, usize)>, AllocError>
-        ensures labels { IfOk result (λ found. labels_of_numbered found.items
-            ≡ labels_of_members (members_among self.now.config
-            (map_of route_labels_cmp self.now.placements) group.now)) }
-        ensures numbers { IfOk result (λ found.
-            All (IsNumbered self.now.placements group.now.route)
-            (map numbered_labels found.items)) }
-    {
         let Some(number) = self.timers.number_of(group) else {
             return Ok(Vec::new(self.alloc));
         };
-        let members = self.members.numbers_of(number)?;
-        let mut found = Vec::with_capacity(self.alloc, members.len())?;
-        for &member in members.as_slice() {
-            let Some(route_labels) = self.placements.key_at(member) else {
-                unreachable!()
-            };
-            found.push((&route_labels.labels, member))?;
+        let numbers = self.members.numbers_of(number)?;
+        let mut found = Vec::with_capacity(self.alloc, numbers.len())?;
+        for &member in numbers.as_slice() {
+            push_member(&mut found, &self.placements, member)?;
         }
-        found.sort()?;
+        found.sort_by(
+            |a: &Member, b: &Member| -> Ordering
+                ensures { result ≡ label_set_cmp a.now.0 b.now.0 }
+            { a.0.cmp(&b.0) },
+        )?;
         Ok(found)
     }
 
@@ -315,13 +303,17 @@ impl Roster {
         ensures placements { self.new.placements ≡ self.old.placements }
         ensures config { self.new.config ≡ self.old.config }
     {
-        let flush = flush_moment(timer);
-        let removal = removal_moment(timer);
-        // The prover needs to see the type of moments here.
-        let _start = Moment::START;
         let was_entered = self.timers.swap_at(number, timer);
-        self.flushes.set(&self.timers, number, flush);
-        self.removals.set(&self.timers, number, removal);
+        // `timer` is the former one now.
+        let flush = group_moment(Kind::GroupFlush, timer.as_ref());
+        let removal = group_moment(Kind::GroupRemoval, timer.as_ref());
+        let timers = &self.timers;
+        let kind = Kind::GroupFlush;
+        self.flushes
+            .update(&GroupTimers { timers, kind }, number, flush);
+        let kind = Kind::GroupRemoval;
+        self.removals
+            .update(&GroupTimers { timers, kind }, number, removal);
         was_entered
     }
 
@@ -358,8 +350,11 @@ impl Roster {
         let key = group.clone()?;
         let count = count_with_next(&self.timers)?;
         self.members.reserve_groups(count)?;
-        self.flushes.reserve(&self.timers, count)?;
-        self.removals.reserve(&self.timers, count)?;
+        let timers = &self.timers;
+        let kind = Kind::GroupFlush;
+        self.flushes.reserve(&GroupTimers { timers, kind }, count)?;
+        let kind = Kind::GroupRemoval;
+        self.removals.reserve(&GroupTimers { timers, kind }, count)?;
         // Groups are flushed in turn. Without room in the queue, their moments take longer.
         drop(self.flushes.reserve_queue());
         let number = self.timers.make_place(key)?;
@@ -414,95 +409,17 @@ fn reserve_homes(homes: &mut Vec<usize>, count: usize) -> Result<(), AllocError>
     homes.resize(count, 0)
 }
 
-/// Returns copies of the labels and alerts of members on a route, given with the numbers of their
-/// places.
-fn with_alerts(
-    alloc: Global,
-    placements: &Keyed<RouteLabels, Shared<Alert>>,
-    route: usize,
-    members: &[(&Labels, usize)],
-) -> Result<Vec<Member>, AllocError>
-    requires { All (IsNumbered placements.now route) (map numbered_labels members.now) }
-    ensures { IfOk result (λ found. found.items
-        ≡ filter_map (with_alert (map_of route_labels_cmp placements.now) route)
-        (labels_of_numbered members.now)) }
-{
-    let mut found = Vec::with_capacity(alloc, members.len())?;
-    for &(labels, number) in members {
-        push_member(&mut found, placements, route, labels, number)?;
-    }
-    Ok(found)
-}
-
-/// Appends a copy of a member's labels and alert, if it has an alert. It finds the alert by the
-/// number of its place, and compares no keys.
+/// Appends a copy of the labels and the alert of the member at a number, if there is one.
 fn push_member(
     found: &mut Vec<Member>,
     placements: &Keyed<RouteLabels, Shared<Alert>>,
-    route: usize,
-    labels: &Labels,
     number: usize,
 ) -> Result<(), AllocError>
-    requires { IsNumbered placements.now route (labels.now, number) }
-    ensures { OnOk result (found.new.items ≡ found.old.items ++
-        cons_option (with_alert (map_of route_labels_cmp placements.now) route labels.now) []) }
+    ensures { OnOk result (found.new.items
+        ≡ found.old.items ++ cons_option (member_at placements.now number) []) }
 {
-    if let Some(alert) = placements.at(number) {
-        found.push((labels.clone()?, alert.clone()?))?;
+    if let (Some(key), Some(alert)) = (placements.key_at(number), placements.at(number)) {
+        found.push((key.labels.clone()?, alert.clone()?))?;
     }
     Ok(())
-}
-
-/// Returns the first timer of a kind of groups, given the moments of all.
-fn first_group<'a>(
-    timers: &'a Keyed<RouteLabels, GroupTimer>,
-    moments: &Earliest,
-    kind: Kind,
-) -> Option<Pending<'a>>
-    requires group { kind ≢ AlertRemoval }
-    requires numbered { AreNumbered route_labels_cmp timers.now }
-    requires scheduled { IsScheduled route_labels_cmp (group_moment kind) timers.now moments.now }
-    ensures { (alerts : map.Map label_set_cmp Alert) → IsFirstOfKind kind
-        (dues_of alerts (map_of route_labels_cmp timers.now)) (option_map due_of result) }
-{
-    let number = moments.first(timers)?;
-    let moment = moments.at(number)?;
-    let group = timers.key_at(number)?;
-    let timer = timer_of_kind(group, kind);
-    Some(Pending { moment, timer })
-}
-
-/// Returns the timer of a kind of a group.
-fn timer_of_kind<'a>(group: &'a RouteLabels, kind: Kind) -> TimerRef<'a>
-    requires { kind ≢ AlertRemoval }
-    ensures kind { kind_of (timer_of result) ≡ kind }
-    ensures group { group_of (timer_of result) ≡ group.now }
-{
-    match kind {
-        Kind::AlertRemoval => unreachable!(),
-        Kind::GroupRemoval => TimerRef::GroupRemoval(group),
-        Kind::GroupFlush => TimerRef::GroupFlush(group),
-    }
-}
-
-/// Returns when a group with this timer is flushed, in nanoseconds since 1970, or `None` without a
-/// timer.
-fn flush_moment(timer: &Option<GroupTimer>) -> Option<u128>
-    ensures { result ≡ flush_moment timer.now }
-{
-    match timer {
-        None => None,
-        Some(timer) => Some(timer.next_flush.nanoseconds()),
-    }
-}
-
-/// Returns when a group with this timer is removed, in nanoseconds since 1970, or `None` without a
-/// timer or while the group has members.
-fn removal_moment(timer: &Option<GroupTimer>) -> Option<u128>
-    ensures { result ≡ removal_moment timer.now }
-{
-    match timer {
-        None => None,
-        Some(timer) => group_removal(timer),
-    }
 }

@@ -21,7 +21,7 @@ ghost use Rattle.amr_engine.specs.Calm.{AreNoneRemoved};
 ghost use Rattle.amr_engine.specs.State.Logged.{is_due};
 ghost use Rattle.amr_engine.specs.State.Kept.{GrownBy, before_open_record};
 ghost use Rattle.amr_engine.specs.State.Records.{after_change};
-ghost use Rattle.amr_engine.specs.State.Fitting.{IsAllowed};
+ghost use Rattle.amr_engine.specs.State.Allowed.{IsAllowed};
 
 use crate::indexes::SilenceTable;
 use crate::state::alert_table::AlertTable;

@@ -9,7 +9,7 @@ ghost use Rattle.amr_engine.specs.State.State.{group_key, log_key_cmp};
 ghost use Rattle.amr_engine.specs.State.Dues.{dues_of, due_by, least_due};
 ghost use Rattle.amr_engine.specs.Calm.{AreNoneRemoved};
 ghost use Rattle.amr_engine.specs.State.Records.{after_change};
-ghost use Rattle.amr_engine.specs.State.Fitting.{is_roster};
+ghost use Rattle.amr_engine.specs.State.Allowed.{is_roster};
 ghost use Rattle.amr_engine.specs.State.Stored.{shown_by, change_back, with_roster, SameValues, MorePlaces, IsSound, IsPlaceOf, IsUnmarked, NoNewMark, NewMarkAt, is_marked_at};
 
 use crate::indexes::SilenceTable;

@@ -5,14 +5,15 @@ use Rattle.amr_tables.proofs.Queueing.{first_leaves, stood_first}
 use Rattle.amr_tables.proofs.earliest.Earliest.drop_first.Goals as goal
 
 pub loop-self-preserved : goal.loop-self-preserved
-loop-self-preserved c =
-    let e : Earliest = record { moments = c.self.inside.moments.items; queue = c.self.inside.queue.items; rest = c.self.inside.rest } in
+loop-self-preserved g c =
+    let e : Earliest = record { queue = c.self.inside.queue.items; rest = c.self.inside.rest } in
+    let rank = g.O.Schedule.rank c.args.schedule.now in
+    let moments = g.O.Schedule.moments c.args.schedule.now in
     let left : List NumberedMoment = c.pop_front.new.self.items in
     record {
-      moments = ap (λ (x : Earliest). x.moments) c.self.view_is ∙ c.loop-self.invariant.moments;
       rest = ap (λ (x : Earliest). x.rest) c.self.view_is ∙ c.loop-self.invariant.rest;
-      queue = λ s stands. c.loop-self.invariant.queue s (subst (λ (x : Earliest). StandsIn x.queue s) c.self.view_is (stood_first e.moments e.rest e.queue left _ c.pop_front.ensures.items s stands));
-      kept = λ rank kept. first_leaves e.moments e.rest rank e.queue left _ c.pop_front.ensures.items
-          (subst (λ (x : Earliest). IsOutdated x (slice_get x.queue 0)) (sym c.self.view_is) (subst (IsOutdated c.loop-self.self) c.front.ensures (c.is_outdated.ensures.outdated c.loop-self-test.true)))
-          (subst (AreKept rank) (sym c.self.view_is) (c.loop-self.invariant.kept rank kept));
+      queue = λ s stands. c.loop-self.invariant.queue s (subst (λ (x : Earliest). StandsIn x.queue s) c.self.view_is (stood_first e.queue left _ c.pop_front.ensures.items s stands));
+      kept = λ kept. first_leaves moments e.rest rank e.queue left _ c.pop_front.ensures.items
+          (subst (λ (x : Earliest). IsOutdated moments (slice_get x.queue 0)) (sym c.self.view_is) (subst (IsOutdated moments) c.front.ensures (c.is_outdated.ensures.outdated c.loop-self-test.true)))
+          (subst (AreKept rank moments) (sym c.self.view_is) (c.loop-self.invariant.kept kept));
     }

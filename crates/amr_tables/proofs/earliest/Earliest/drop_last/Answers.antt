@@ -6,14 +6,14 @@ use Rattle.amr_tables.proofs.Queueing.{last_leaves, stood_last}
 use Rattle.amr_tables.proofs.earliest.Earliest.drop_last.Goals as goal
 
 pub loop-self-preserved : goal.loop-self-preserved
-loop-self-preserved c =
-    let e : Earliest = record { moments = c.self.inside.moments.items; queue = c.self.inside.queue.items; rest = c.self.inside.rest } in
+loop-self-preserved g c =
+    let e : Earliest = record { queue = c.self.inside.queue.items; rest = c.self.inside.rest } in
+    let now = g.O.Schedule.moments c.args.schedule.now in
     let left : List NumberedMoment = c.pop_back.new.self.items in
     record {
-      moments = ap (λ (x : Earliest). x.moments) c.self.view_is ∙ c.loop-self.invariant.moments;
       rest = ap (λ (x : Earliest). x.rest) c.self.view_is ∙ c.loop-self.invariant.rest;
-      queue = λ s stands. c.loop-self.invariant.queue s (subst (λ (x : Earliest). StandsIn x.queue s) c.self.view_is (stood_last e.moments e.rest e.queue left _ c.pop_back.ensures.items s stands));
-      kept = λ rank kept. last_leaves e.moments e.rest rank e.queue left _ c.pop_back.ensures.items
-          (subst (λ (x : Earliest). IsOutdated x (last_or None x.queue)) (sym c.self.view_is) (subst (IsOutdated c.loop-self.self) c.last.ensures (c.is_outdated.ensures.outdated c.loop-self-test.true)))
-          (subst (AreKept rank) (sym c.self.view_is) (c.loop-self.invariant.kept rank kept));
+      queue = λ s stands. c.loop-self.invariant.queue s (subst (λ (x : Earliest). StandsIn x.queue s) c.self.view_is (stood_last e.queue left _ c.pop_back.ensures.items s stands));
+      kept = λ rank moments among kept. last_leaves now e.rest rank moments among e.queue left _ c.pop_back.ensures.items
+          (subst (λ (x : Earliest). IsOutdated now (last_or None x.queue)) (sym c.self.view_is) (subst (IsOutdated now) c.last.ensures (c.is_outdated.ensures.outdated c.loop-self-test.true)))
+          (subst (AreKept rank moments) (sym c.self.view_is) (c.loop-self.invariant.kept rank moments among kept));
     }

@@ -1,15 +1,14 @@
 use Rattle.std.proofs.Common.{◌≡◌, ℕ, length}
-use Rattle.amr_tables.specs.Earliest.{IsHeld, AreKept}
+use Rattle.amr_tables.specs.Earliest.{room, IsHeld, AreKept}
 use Rattle.amr_tables.specs.Places.{values_of}
 use Rattle.amr_tables.proofs.earliest.Earliest.drop_winners.Given as goal
 
 abbrev pub invariant-loop-number : goal.invariant-loop-number
 invariant-loop-number g l = record {
-  moments : l.self.moments ≡ l.initial.self.moments;
   queue : l.self.queue ≡ l.initial.self.queue;
-  room : length l.self.rest.moments ≡ length l.initial.self.rest.moments;
+  room : room l.self ≡ room l.initial.self;
   held : (n : ℕ) → IsHeld l.self n → IsHeld l.initial.self n;
-  kept : AreKept (g.O.Ranking.rank l.order) l.self;
+  kept : AreKept (g.O.Schedule.rank l.schedule) (g.O.Schedule.moments l.schedule) l.self;
 }
 
 abbrev pub decreases-loop-number : goal.decreases-loop-number

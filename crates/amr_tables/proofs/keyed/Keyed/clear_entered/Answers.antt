@@ -19,6 +19,12 @@ pub returns-clause-places : goal.returns-clause-places
 unfolding has_place
 returns-clause-places g c = λ key. ap (λ v. has_place g.K.Ord.cmp v key) c.self.view_is
 
+pub returns-clause-numbering : goal.returns-clause-numbering
+returns-clause-numbering g c =
+    let t = c.self.inside in
+    subst (λ p. IsNumbering g.K.Ord.cmp (record { numbers = t.numbers.list; cells = p.values; marks = p.marks })) (sym c.clear_marks.ensures)
+    (cleared_is g.met.K.Ord.total (record { numbers = t.numbers.list; cells = t.cells.values; marks = t.cells.marks }) c.self.invariant.0)
+
 pub invariant_of-self : goal.invariant_of-self
 invariant_of-self g c =
     let t = c.self.inside in (

@@ -1,12 +1,12 @@
-use Rattle.std.proofs.Common.{◌≡◌, ◌∷◌, ◌++◌, [], None, arith, refl, sym, ap, subst, ◌∙◌}
+use Rattle.std.proofs.Common.{◌≡◌, ◌∷◌, ◌++◌, [], None, arith, sym, ap, subst, ◌∙◌}
 use Rattle.std.specs.Prelude.{Result, Ok, Err, OnOk}
-use Rattle.amr_labels.specs.Labels.{LabelSet, label_set_cmp}
+use Rattle.amr_labels.specs.Labels.{LabelSet, label_set_cmp, label_set_cmp_total, label_set_cmp-IsAntisymmetric}
 use Rattle.amr_rules.specs.declared.alert.Alert.{Alert}
 use Rattle.amr_tables.specs.Numbered.{Numbered, number_of, next_number, GetsNumber}
 use Rattle.amr_engine.specs.Indexes.RuleSources.{AllArrived}
-use Rattle.amr_engine.specs.State.Timed.{AreRemoved}
+use Rattle.amr_engine.specs.State.Timed.{IsScheduled, alert_moment}
 use Rattle.amr_engine.proofs.IndexesLemmas.Arriving.{arrived_more}
-use Rattle.amr_engine.proofs.StateLemmas.Scheduling.{alerts_same, alert_placed, unplaced}
+use Rattle.amr_engine.proofs.StateLemmas.Scheduling.{scheduled_same, scheduled_roomier, scheduled_placed, unplaced}
 use Rattle.amr_engine.proofs.state.alert_table.AlertTable.add.Goals as goal
 
 on_ok : {T E : Type 0} (r : Result T E) (P Q : Type 0) → (P → Q) → OnOk r P → OnOk r Q
@@ -16,17 +16,17 @@ on_ok (Err e) P Q f p = p
 pub invariant_of-self : goal.invariant_of-self
 invariant_of-self c =
     let t = c.self.inside in
-    (alerts_same t.alerts t.removals c.self.invariant.0 t.alerts refl refl c.reserve.new.self c.reserve.ensures.same c.reserve.ensures.more c.reserve.ensures.held c.reserve.ensures.kept, c.self.invariant.1)
+    (record { numbering = c.self.invariant.0.numbering; removed = scheduled_roomier label_set_cmp_total label_set_cmp-IsAntisymmetric alert_moment t.alerts t.removals c.reserve.new.self c.reserve.ensures.more c.reserve.ensures.held c.reserve.ensures.kept c.self.invariant.0.removed }, c.self.invariant.1)
 
 pub invariant_of-self-in_err-clone : goal.invariant_of-self-in_err-clone
 invariant_of-self-in_err-clone c =
     let t = c.self.inside in
-    (alerts_same t.alerts t.removals c.self.invariant.0 t.alerts refl refl c.reserve.new.self c.reserve.ensures.same c.reserve.ensures.more c.reserve.ensures.held c.reserve.ensures.kept, c.self.invariant.1)
+    (record { numbering = c.self.invariant.0.numbering; removed = scheduled_roomier label_set_cmp_total label_set_cmp-IsAntisymmetric alert_moment t.alerts t.removals c.reserve.new.self c.reserve.ensures.more c.reserve.ensures.held c.reserve.ensures.kept c.self.invariant.0.removed }, c.self.invariant.1)
 
 pub invariant_of-self-in_err-add : goal.invariant_of-self-in_err-add
 invariant_of-self-in_err-add c =
     let t = c.self.inside in (
-      alerts_same t.alerts t.removals c.self.invariant.0 t.alerts refl refl c.reserve.new.self c.reserve.ensures.same c.reserve.ensures.more c.reserve.ensures.held c.reserve.ensures.kept,
+      record { numbering = c.self.invariant.0.numbering; removed = scheduled_roomier label_set_cmp_total label_set_cmp-IsAntisymmetric alert_moment t.alerts t.removals c.reserve.new.self c.reserve.ensures.more c.reserve.ensures.held c.reserve.ensures.kept c.self.invariant.0.removed },
       subst (AllArrived t.alerts) (sym c.in_err-add.ensures.err) c.self.invariant.1,
     )
 
@@ -38,7 +38,11 @@ invariant_of-self-in_err-number c =
     let none : number_of label_set_cmp t.alerts copy ≡ None = ap (number_of label_set_cmp t.alerts) c.in_ok-copy.ensures.cases ∙ ap (λ (v : Numbered LabelSet Alert). number_of label_set_cmp v c.args.labels.now) c.self.view_is ∙ c.requires in
     let gets = on_ok c.make_place.result _ (GetsNumber label_set_cmp t.alerts u copy (next_number t.alerts)) (λ gets. gets (unplaced label_set_cmp t.alerts copy none)) c.make_place.ensures.number in
     let added : c.add.new.self ≡ t.sources ++ copy ∷ [] = c.in_ok-add.ensures.ok ∙ ap (λ labels. t.sources ++ labels ∷ []) (c.in_ok-clone.ensures.cases ∙ sym c.in_ok-copy.ensures.cases) in (
-      alerts_same t.alerts t.removals c.self.invariant.0 u c.in_err-number.ensures.kept c.make_place.ensures.shown c.reserve.new.self c.reserve.ensures.same c.reserve.ensures.more c.reserve.ensures.held c.reserve.ensures.kept,
+      record {
+        numbering = c.make_place.ensures.numbering;
+        removed = scheduled_same label_set_cmp_total label_set_cmp-IsAntisymmetric alert_moment t.alerts u c.reserve.new.self c.in_err-number.ensures.kept c.make_place.ensures.values
+            (scheduled_roomier label_set_cmp_total label_set_cmp-IsAntisymmetric alert_moment t.alerts t.removals c.reserve.new.self c.reserve.ensures.more c.reserve.ensures.held c.reserve.ensures.kept c.self.invariant.0.removed);
+      },
       subst (AllArrived u) (sym added) (arrived_more c.make_place.result t.alerts u t.sources copy (next_number t.alerts) gets c.make_place.ensures.err c.self.invariant.1),
     )
 
@@ -51,7 +55,11 @@ invariant_of-self-2 c =
     let none : number_of label_set_cmp t.alerts copy ≡ None = ap (number_of label_set_cmp t.alerts) c.in_ok-copy.ensures.cases ∙ ap (λ (v : Numbered LabelSet Alert). number_of label_set_cmp v c.args.labels.now) c.self.view_is ∙ c.requires in
     let gets = on_ok c.make_place.result _ (GetsNumber label_set_cmp t.alerts u copy (next_number t.alerts)) (λ gets. gets (unplaced label_set_cmp t.alerts copy none)) c.make_place.ensures.number in
     let added : c.add.new.self ≡ t.sources ++ copy ∷ [] = c.in_ok-add.ensures.ok ∙ ap (λ labels. t.sources ++ labels ∷ []) (c.in_ok-clone.ensures.cases ∙ sym c.in_ok-copy.ensures.cases) in
-    let roomy : AreRemoved t.alerts r = alerts_same t.alerts t.removals c.self.invariant.0 t.alerts refl refl r c.reserve.ensures.same c.reserve.ensures.more c.reserve.ensures.held c.reserve.ensures.kept in (
-      alert_placed t.alerts r roomy u copy c.count_with_next.ensures.numbering c.make_place.ensures.numbering none (c.in_ok-number.ensures.number (unplaced label_set_cmp t.alerts copy none)) c.make_place.ensures.shown (omega (arith, c.in_ok-reserve.ensures.room, c.in_ok-count.ensures.count)),
+    let roomy : IsScheduled label_set_cmp alert_moment t.alerts r = scheduled_roomier label_set_cmp_total label_set_cmp-IsAntisymmetric alert_moment t.alerts t.removals r c.reserve.ensures.more c.reserve.ensures.held c.reserve.ensures.kept c.self.invariant.0.removed in (
+      record {
+        numbering = c.make_place.ensures.numbering;
+        removed = scheduled_placed label_set_cmp_total label_set_cmp-IsAntisymmetric alert_moment t.alerts u r copy c.self.invariant.0.numbering c.make_place.ensures.numbering none (c.in_ok-number.ensures.number (unplaced label_set_cmp t.alerts copy none)) c.make_place.ensures.values
+            (omega (arith, c.in_ok-reserve.ensures.room, c.in_ok-count.ensures.count)) roomy;
+      },
       subst (AllArrived u) (sym added) (arrived_more c.make_place.result t.alerts u t.sources copy (next_number t.alerts) gets c.make_place.ensures.err c.self.invariant.1),
     )

@@ -10,4 +10,4 @@ use Rattle.amr_engine.proofs.state.alert_table.AlertTable.first_removal.Goals as
 
 pub returns : goal.returns
 returns c = λ timers.
-    subst (λ (v : Numbered LabelSet Alert). IsFirstOfKind AlertRemoval (dues_of (map_of label_set_cmp v) timers) (option_map due_of c.first_alert.result)) c.self.view_is (c.first_alert.ensures timers)
+    subst (λ (v : Numbered LabelSet Alert). IsFirstOfKind AlertRemoval (dues_of (map_of label_set_cmp v) timers) (option_map due_of c.first.result)) c.self.view_is (c.first.ensures timers)

@@ -1,24 +1,24 @@
 use Rattle.std.proofs.Common.{◌≡◌, ◌||◌, Some, ap, ◌∙◌}
-use Rattle.std.specs.Prelude.{slice_set}
 use Rattle.std.specs.Ordering.{eq_by_cmp}
-use Rattle.amr_labels.specs.Labels.{LabelSet, label_set_cmp}
+use Rattle.amr_labels.specs.Labels.{LabelSet, label_set_cmp, label_set_cmp_total, label_set_cmp-IsAntisymmetric}
+use Rattle.amr_engine.specs.State.Timed.{alert_moment}
 use Rattle.amr_labels.specs.Map as map
 use Rattle.amr_rules.specs.declared.alert.Alert.{Alert}
 use Rattle.amr_tables.specs.Numbered.{Numbered, map_of, number_of, has_place, is_entered}
 use Rattle.amr_engine.proofs.IndexesLemmas.Arriving.{arrived_same}
-use Rattle.amr_engine.proofs.StateLemmas.Scheduling.{alert_set, ranked}
+use Rattle.amr_engine.proofs.StateLemmas.Scheduling.{scheduled_set, ordered_before}
 use Rattle.amr_engine.proofs.state.alert_table.AlertTable.swap_at.Goals as goal
 
 pub swap_at-was_entered-requires : goal.swap_at-was_entered-requires
 swap_at-was_entered-requires c = (c.requires.0, ap (λ (v : Numbered LabelSet Alert). number_of label_set_cmp v c.requires.0) c.self.view_is ∙ c.requires.1)
 
-pub set-requires-clause-room : goal.set-requires-clause-room
-set-requires-clause-room c = c.self.invariant.0.removed.room c.requires.0 c.args.number (ap (λ (v : Numbered LabelSet Alert). number_of label_set_cmp v c.requires.0) c.self.view_is ∙ c.requires.1)
+pub update-requires-clause-room : goal.update-requires-clause-room
+update-requires-clause-room c = c.self.invariant.0.removed.room c.requires.0 c.args.number (ap (λ (v : Numbered LabelSet Alert). number_of label_set_cmp v c.requires.0) c.self.view_is ∙ c.requires.1)
 
-pub set-requires-clause-kept : goal.set-requires-clause-kept
-set-requires-clause-kept c =
+pub update-requires-clause-kept : goal.update-requires-clause-kept
+update-requires-clause-kept c =
     let t = c.self.inside in
-    ranked label_set_cmp t.alerts c.swap_at-was_entered.new.self c.swap_at-was_entered.ensures.keys t.removals c.self.invariant.0.removed.ordered
+    ordered_before label_set_cmp_total label_set_cmp-IsAntisymmetric alert_moment t.alerts c.swap_at-was_entered.new.self t.removals c.args.number c.args.alert.now _ c.swap_at-was_entered.ensures.keys c.swap_at-was_entered.ensures.cells (c.alert_moment-former.ensures ∙ ap alert_moment (c.as_ref.ensures.value ∙ c.swap_at-was_entered.ensures.value)) c.self.invariant.0.removed.ordered
 
 pub invariant_of-self : goal.invariant_of-self
 invariant_of-self c =
@@ -27,8 +27,10 @@ invariant_of-self c =
     let n = c.args.number in
     let u = c.swap_at-was_entered.new.self in
     let number : number_of label_set_cmp t.alerts labels ≡ Some n = ap (λ (v : Numbered LabelSet Alert). number_of label_set_cmp v labels) c.self.view_is ∙ c.requires.1 in (
-      alert_set t.alerts t.removals c.self.invariant.0 u c.set.new.self labels n c.args.alert.now number c.swap_at-was_entered.ensures.keys (c.swap_at-was_entered.ensures.shown labels number)
-          (c.set.ensures.moments ∙ ap (slice_set t.removals.moments n) c.alert_moment-moment.ensures) c.set.ensures.held c.set.ensures.kept,
+      record {
+        numbering = c.swap_at-was_entered.ensures.numbering;
+        removed = scheduled_set label_set_cmp_total label_set_cmp-IsAntisymmetric alert_moment t.alerts u t.removals c.update.new.self labels n number c.swap_at-was_entered.ensures.keys c.update.ensures.room c.update.ensures.held c.update.ensures.kept c.self.invariant.0.removed;
+      },
       arrived_same t.alerts u t.sources c.self.invariant.1 c.swap_at-was_entered.ensures.places,
     )
 

@@ -1,18 +1,18 @@
 use Rattle.std.proofs.Common.{◌≡◌, None, IsTrue, length, refl, sym, ap, subst, ◌∙◌, arith}
-use Rattle.std.proofs.Math.Nat.{le_refl}
 use Rattle.amr_tables.specs.Places.{value_at}
 use Rattle.amr_tables.specs.Numbered.{number_of, next_number, has_place, is_entered, GetsNumber}
-use Rattle.amr_config.specs.RouteLabels.{route_labels_cmp}
+use Rattle.amr_config.specs.RouteLabels.{route_labels_cmp, route_labels_cmp_total, route_labels_cmp-IsAntisymmetric}
+use Rattle.amr_engine.specs.declared.state.due.Kind.TheVariants.{GroupRemoval, GroupFlush}
 use Rattle.amr_engine.specs.State.Rostered.{Rostered, IsGrouped}
-use Rattle.amr_engine.specs.State.Timed.{AreTimed}
+use Rattle.amr_engine.specs.State.Timed.{IsScheduled, AreTimed, group_moment}
 use Rattle.amr_engine.proofs.StateLemmas.Rostering.{grouped_same, group_placed}
-use Rattle.amr_engine.proofs.StateLemmas.Scheduling.{timers_same, timer_placed, unplaced}
+use Rattle.amr_engine.proofs.StateLemmas.Scheduling.{scheduled_same, scheduled_roomier, scheduled_placed, unplaced}
 use Rattle.amr_engine.proofs.state.roster.Roster.add_group.Goals as goal
 
 pub invariant_of-self : goal.invariant_of-self
 invariant_of-self c =
     let r = c.self.inside in (
-      grouped_same r.config r.placements r.timers r.homes.items r.members c.self.invariant.0 r.placements r.timers c.reserve_groups.new.self refl refl refl (λ n. ap (λ gs. value_at gs n) c.reserve_groups.ensures.same)
+      grouped_same r.config r.placements r.timers r.homes.items r.members c.self.invariant.0 r.placements r.timers c.reserve_groups.new.self c.self.invariant.0.numbering refl refl refl (λ n. ap (λ gs. value_at gs n) c.reserve_groups.ensures.same)
           (omega (arith, ap length c.reserve_groups.ensures.same)) c.reserve_groups.ensures.more,
       c.self.invariant.1,
     )
@@ -21,30 +21,40 @@ pub invariant_of-self-in_err-reserve : goal.invariant_of-self-in_err-reserve
 invariant_of-self-in_err-reserve c =
     let r = c.self.inside in
     let timed = c.self.invariant.1 in (
-      grouped_same r.config r.placements r.timers r.homes.items r.members c.self.invariant.0 r.placements r.timers c.reserve_groups.new.self refl refl refl (λ n. ap (λ gs. value_at gs n) c.reserve_groups.ensures.same)
+      grouped_same r.config r.placements r.timers r.homes.items r.members c.self.invariant.0 r.placements r.timers c.reserve_groups.new.self c.self.invariant.0.numbering refl refl refl (λ n. ap (λ gs. value_at gs n) c.reserve_groups.ensures.same)
           (omega (arith, ap length c.reserve_groups.ensures.same)) c.reserve_groups.ensures.more,
-      timers_same r.timers r.removals r.flushes timed r.timers refl refl r.removals (λ n. refl) (le_refl (length r.removals.moments)) (λ n h. h) timed.removed.ordered
-          c.reserve.new.self c.reserve.ensures.same c.reserve.ensures.more c.reserve.ensures.held c.reserve.ensures.kept,
+      record {
+        numbering = timed.numbering;
+        removed = timed.removed;
+        flushed = scheduled_roomier route_labels_cmp_total route_labels_cmp-IsAntisymmetric (group_moment GroupFlush) r.timers r.flushes c.reserve.new.self c.reserve.ensures.more c.reserve.ensures.held c.reserve.ensures.kept c.self.invariant.1.flushed;
+      },
     )
 
 pub invariant_of-self-in_err-reserve-2 : goal.invariant_of-self-in_err-reserve-2
 invariant_of-self-in_err-reserve-2 c =
     let r = c.self.inside in (
-      grouped_same r.config r.placements r.timers r.homes.items r.members c.self.invariant.0 r.placements r.timers c.reserve_groups.new.self refl refl refl (λ n. ap (λ gs. value_at gs n) c.reserve_groups.ensures.same)
+      grouped_same r.config r.placements r.timers r.homes.items r.members c.self.invariant.0 r.placements r.timers c.reserve_groups.new.self c.self.invariant.0.numbering refl refl refl (λ n. ap (λ gs. value_at gs n) c.reserve_groups.ensures.same)
           (omega (arith, ap length c.reserve_groups.ensures.same)) c.reserve_groups.ensures.more,
-      timers_same r.timers r.removals r.flushes c.self.invariant.1 r.timers refl refl c.reserve-2.new.self c.reserve-2.ensures.same c.reserve-2.ensures.more c.reserve-2.ensures.held c.reserve-2.ensures.kept
-          c.reserve.new.self c.reserve.ensures.same c.reserve.ensures.more c.reserve.ensures.held c.reserve.ensures.kept,
+      record {
+        numbering = c.self.invariant.1.numbering;
+        removed = scheduled_roomier route_labels_cmp_total route_labels_cmp-IsAntisymmetric (group_moment GroupRemoval) r.timers r.removals c.reserve-2.new.self c.reserve-2.ensures.more c.reserve-2.ensures.held c.reserve-2.ensures.kept c.self.invariant.1.removed;
+        flushed = scheduled_roomier route_labels_cmp_total route_labels_cmp-IsAntisymmetric (group_moment GroupFlush) r.timers r.flushes c.reserve.new.self c.reserve.ensures.more c.reserve.ensures.held c.reserve.ensures.kept c.self.invariant.1.flushed;
+      },
     )
 
 pub invariant_of-self-in_err-number : goal.invariant_of-self-in_err-number
 invariant_of-self-in_err-number c =
     let r = c.self.inside in
     let e = c.reserve-2.new.self in (
-      grouped_same r.config r.placements r.timers r.homes.items r.members c.self.invariant.0 r.placements c.make_place.new.self c.reserve_groups.new.self refl refl c.in_err-number.ensures.kept
+      grouped_same r.config r.placements r.timers r.homes.items r.members c.self.invariant.0 r.placements c.make_place.new.self c.reserve_groups.new.self c.self.invariant.0.numbering refl refl c.in_err-number.ensures.kept
           (λ n. ap (λ gs. value_at gs n) c.reserve_groups.ensures.same) (omega (arith, ap length c.reserve_groups.ensures.same)) c.reserve_groups.ensures.more,
-      subst (AreTimed c.make_place.new.self e) (sym c.reserve_queue.ensures)
-          (timers_same r.timers r.removals r.flushes c.self.invariant.1 c.make_place.new.self c.in_err-number.ensures.kept c.make_place.ensures.shown e c.reserve-2.ensures.same c.reserve-2.ensures.more c.reserve-2.ensures.held c.reserve-2.ensures.kept
-          c.reserve.new.self c.reserve.ensures.same c.reserve.ensures.more c.reserve.ensures.held c.reserve.ensures.kept),
+      subst (AreTimed c.make_place.new.self e) (sym c.reserve_queue.ensures) (record {
+        numbering = c.make_place.ensures.numbering;
+        removed = scheduled_same route_labels_cmp_total route_labels_cmp-IsAntisymmetric (group_moment GroupRemoval) r.timers c.make_place.new.self e c.in_err-number.ensures.kept c.make_place.ensures.values
+            (scheduled_roomier route_labels_cmp_total route_labels_cmp-IsAntisymmetric (group_moment GroupRemoval) r.timers r.removals c.reserve-2.new.self c.reserve-2.ensures.more c.reserve-2.ensures.held c.reserve-2.ensures.kept c.self.invariant.1.removed);
+        flushed = scheduled_same route_labels_cmp_total route_labels_cmp-IsAntisymmetric (group_moment GroupFlush) r.timers c.make_place.new.self c.reserve.new.self c.in_err-number.ensures.kept c.make_place.ensures.values
+            (scheduled_roomier route_labels_cmp_total route_labels_cmp-IsAntisymmetric (group_moment GroupFlush) r.timers r.flushes c.reserve.new.self c.reserve.ensures.more c.reserve.ensures.held c.reserve.ensures.kept c.self.invariant.1.flushed);
+      }),
     )
 
 pub returns-in_err-number-clause-entered : goal.returns-in_err-number-clause-entered
@@ -63,13 +73,16 @@ invariant_of-self-2 c =
     let f = c.reserve.new.self in
     let new : number_of route_labels_cmp r.timers key ≡ None = ap (number_of route_labels_cmp r.timers) c.in_ok-key.ensures.cases ∙ ap (λ (v : Rostered). number_of route_labels_cmp v.timers group) c.self.view_is ∙ c.requires in
     let gets : GetsNumber route_labels_cmp r.timers c.make_place.new.self key (next_number r.timers) = c.in_ok-number.ensures.number (unplaced route_labels_cmp r.timers key new) in
-    let roomy : IsGrouped r.config r.placements r.timers r.homes.items k = grouped_same r.config r.placements r.timers r.homes.items r.members c.self.invariant.0 r.placements r.timers k refl refl refl (λ n. ap (λ gs. value_at gs n) c.reserve_groups.ensures.same)
+    let roomy : IsGrouped r.config r.placements r.timers r.homes.items k = grouped_same r.config r.placements r.timers r.homes.items r.members c.self.invariant.0 r.placements r.timers k c.self.invariant.0.numbering refl refl refl (λ n. ap (λ gs. value_at gs n) c.reserve_groups.ensures.same)
     (omega (arith, ap length c.reserve_groups.ensures.same)) c.reserve_groups.ensures.more in
-    let timed : AreTimed r.timers e f = timers_same r.timers r.removals r.flushes c.self.invariant.1 r.timers refl refl
-    e c.reserve-2.ensures.same c.reserve-2.ensures.more c.reserve-2.ensures.held c.reserve-2.ensures.kept f c.reserve.ensures.same c.reserve.ensures.more c.reserve.ensures.held c.reserve.ensures.kept in (
+    let flushed : IsScheduled route_labels_cmp (group_moment GroupFlush) r.timers f = scheduled_roomier route_labels_cmp_total route_labels_cmp-IsAntisymmetric (group_moment GroupFlush) r.timers r.flushes c.reserve.new.self c.reserve.ensures.more c.reserve.ensures.held c.reserve.ensures.kept c.self.invariant.1.flushed in
+    let removed : IsScheduled route_labels_cmp (group_moment GroupRemoval) r.timers e = scheduled_roomier route_labels_cmp_total route_labels_cmp-IsAntisymmetric (group_moment GroupRemoval) r.timers r.removals c.reserve-2.new.self c.reserve-2.ensures.more c.reserve-2.ensures.held c.reserve-2.ensures.kept c.self.invariant.1.removed in (
       group_placed r.config r.placements r.timers r.homes.items k roomy c.make_place.new.self key new gets (omega (arith, c.in_ok-reserve_groups.ensures.room, c.in_ok-count.ensures.count)),
-      subst (AreTimed c.make_place.new.self e) (sym c.reserve_queue.ensures)
-          (timer_placed r.timers e f timed c.make_place.new.self key c.count_with_next.ensures.numbering c.make_place.ensures.numbering new gets c.make_place.ensures.shown (omega (arith, c.in_ok-reserve-2.ensures.room, c.in_ok-count.ensures.count)) (omega (arith, c.in_ok-reserve.ensures.room, c.in_ok-count.ensures.count))),
+      subst (AreTimed c.make_place.new.self e) (sym c.reserve_queue.ensures) (record {
+        numbering = c.make_place.ensures.numbering;
+        removed = scheduled_placed route_labels_cmp_total route_labels_cmp-IsAntisymmetric (group_moment GroupRemoval) r.timers c.make_place.new.self e key c.count_with_next.ensures.numbering c.make_place.ensures.numbering new gets c.make_place.ensures.values (omega (arith, c.in_ok-reserve-2.ensures.room, c.in_ok-count.ensures.count)) removed;
+        flushed = scheduled_placed route_labels_cmp_total route_labels_cmp-IsAntisymmetric (group_moment GroupFlush) r.timers c.make_place.new.self f key c.count_with_next.ensures.numbering c.make_place.ensures.numbering new gets c.make_place.ensures.values (omega (arith, c.in_ok-reserve.ensures.room, c.in_ok-count.ensures.count)) flushed;
+      }),
     )
 
 pub returns-clause-entered : goal.returns-clause-entered

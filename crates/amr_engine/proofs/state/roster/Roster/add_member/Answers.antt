@@ -13,14 +13,14 @@ use Rattle.amr_engine.proofs.state.roster.Roster.add_member.Goals as goal
 pub invariant_of-self : goal.invariant_of-self
 invariant_of-self c =
     let r = c.self.inside in
-    (grouped_same r.config r.placements r.timers r.homes.items r.members c.self.invariant.0 r.placements r.timers c.reserve_numbers.new.self refl refl refl c.reserve_numbers.ensures.same c.reserve_numbers.ensures.more (omega (arith, c.reserve_numbers.ensures.groups)), c.self.invariant.1)
+    (grouped_same r.config r.placements r.timers r.homes.items r.members c.self.invariant.0 r.placements r.timers c.reserve_numbers.new.self c.self.invariant.0.numbering refl refl refl c.reserve_numbers.ensures.same c.reserve_numbers.ensures.more (omega (arith, c.reserve_numbers.ensures.groups)), c.self.invariant.1)
 
 pub invariant_of-self-in_err-reserve_homes : goal.invariant_of-self-in_err-reserve_homes
 invariant_of-self-in_err-reserve_homes c =
     let r = c.self.inside in
     let k = c.reserve_numbers.new.self in
     let roomy : IsGrouped r.config r.placements r.timers r.homes.items k =
-    grouped_same r.config r.placements r.timers r.homes.items r.members c.self.invariant.0 r.placements r.timers k refl refl refl c.reserve_numbers.ensures.same c.reserve_numbers.ensures.more (omega (arith, c.reserve_numbers.ensures.groups)) in
+    grouped_same r.config r.placements r.timers r.homes.items r.members c.self.invariant.0 r.placements r.timers k c.self.invariant.0.numbering refl refl refl c.reserve_numbers.ensures.same c.reserve_numbers.ensures.more (omega (arith, c.reserve_numbers.ensures.groups)) in
     (grouped_longer r.config r.placements r.timers r.homes.items k roomy c.reserve_homes.new.homes.items c.reserve_homes.ensures.more c.reserve_homes.ensures.same, c.self.invariant.1)
 
 pub invariant_of-self-in_err-number : goal.invariant_of-self-in_err-number
@@ -28,7 +28,7 @@ invariant_of-self-in_err-number c =
     let r = c.self.inside in
     let k = c.reserve_numbers.new.self in
     let unplaced_yet : IsGrouped r.config c.make_place.new.self r.timers r.homes.items k =
-    grouped_same r.config r.placements r.timers r.homes.items r.members c.self.invariant.0 c.make_place.new.self r.timers k c.in_err-number.ensures.kept c.make_place.ensures.shown refl c.reserve_numbers.ensures.same c.reserve_numbers.ensures.more (omega (arith, c.reserve_numbers.ensures.groups)) in
+    grouped_same r.config r.placements r.timers r.homes.items r.members c.self.invariant.0 c.make_place.new.self r.timers k c.make_place.ensures.numbering c.in_err-number.ensures.kept c.make_place.ensures.shown refl c.reserve_numbers.ensures.same c.reserve_numbers.ensures.more (omega (arith, c.reserve_numbers.ensures.groups)) in
     (grouped_longer r.config c.make_place.new.self r.timers r.homes.items k unplaced_yet c.reserve_homes.new.homes.items c.reserve_homes.ensures.more c.reserve_homes.ensures.same, c.self.invariant.1)
 
 pub returns-in_err-number-clause-entered : goal.returns-in_err-number-clause-entered
@@ -52,9 +52,9 @@ invariant_of-self-2 c =
     let number : next_number r.placements ≡ c.in_ok-number.number =
     same_Some _ _ (ap (λ o. if is_eq o then Some (next_number r.placements) else number_of route_labels_cmp r.placements key) (sym (tied_itself route_labels_cmp_total key)) ∙ sym (gets key) ∙ c.in_ok-number.ensures.made) in
     let roomy : IsGrouped r.config r.placements r.timers r.homes.items k =
-    grouped_same r.config r.placements r.timers r.homes.items r.members c.self.invariant.0 r.placements r.timers k refl refl refl c.reserve_numbers.ensures.same c.reserve_numbers.ensures.more (omega (arith, c.reserve_numbers.ensures.groups)) in
+    grouped_same r.config r.placements r.timers r.homes.items r.members c.self.invariant.0 r.placements r.timers k c.self.invariant.0.numbering refl refl refl c.reserve_numbers.ensures.same c.reserve_numbers.ensures.more (omega (arith, c.reserve_numbers.ensures.groups)) in
     let longer : IsGrouped r.config r.placements r.timers homes k = grouped_longer r.config r.placements r.timers r.homes.items k roomy homes c.reserve_homes.ensures.more c.reserve_homes.ensures.same in (
-      grouped_placed r.config r.placements r.timers homes k longer c.make_place.new.self _ key c.args.home c.count_with_next.ensures.numbering new gets c.make_place.ensures.shown (omega (arith, c.in_ok-reserve_numbers.ensures.room, c.in_ok-count.ensures.count))
+      grouped_placed r.config r.placements r.timers homes k longer c.make_place.new.self _ key c.args.home c.make_place.ensures.numbering new gets c.make_place.ensures.shown (omega (arith, c.in_ok-reserve_numbers.ensures.room, c.in_ok-count.ensures.count))
           home (ap (λ n. slice_set homes n c.args.home) (sym number)) (omega (arith, c.in_ok-reserve_homes.ensures.room, c.in_ok-count.ensures.count)),
       c.self.invariant.1,
     )

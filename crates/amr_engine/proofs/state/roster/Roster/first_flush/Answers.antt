@@ -10,4 +10,4 @@ use Rattle.amr_engine.proofs.state.roster.Roster.first_flush.Goals as goal
 
 pub returns : goal.returns
 returns c = λ alerts.
-    subst (λ (v : Rostered). IsFirstOfKind GroupFlush (dues_of alerts (map_of route_labels_cmp v.timers)) (option_map due_of c.first_group.result)) c.self.view_is (c.first_group.ensures alerts)
+    subst (λ (v : Rostered). IsFirstOfKind GroupFlush (dues_of alerts (map_of route_labels_cmp v.timers)) (option_map due_of c.first.result)) c.self.view_is (c.first.ensures alerts)

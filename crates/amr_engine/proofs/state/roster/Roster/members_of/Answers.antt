@@ -1,24 +1,36 @@
-use Rattle.std.proofs.Common.{◌≡◌, List, IfOk, map, sym, ap, subst, ◌∙◌}
-use Rattle.std.specs.List.{All, filter_map}
-use Rattle.std.specs.Borrow.{Bor}
-use Rattle.amr_labels.specs.Labels.{LabelSet}
+use Rattle.std.proofs.Common.{rules, ◌≡◌, ◌++◌, List, Some, sym, ap, ◌∙◌}
+use Rattle.std.specs.Prelude.{IsSortedBy}
+use Rattle.std.specs.List.{filter_map}
+use Rattle.std.specs.Ordering.{is_lt}
+use Rattle.std.proofs.lemmas.List.{append-nil, at_drop_all}
+use Rattle.std.proofs.lemmas.Fn.{always_returns_same}
+use Rattle.std.proofs.lemmas.List.MinMax.{ranks_by}
+use Rattle.amr_labels.specs.Labels.{LabelSet, label_set_cmp, label_set_cmp_total}
 use Rattle.amr_rules.specs.declared.alert.Alert.{Alert}
-use Rattle.amr_tables.specs.Numbered.{map_of}
+use Rattle.amr_tables.specs.Numbered.{map_of, number_of}
 use Rattle.amr_config.specs.RouteLabels.{route_labels_cmp}
-use Rattle.amr_engine.specs.State.Rostered.{Rostered, labels_of_numbered, numbered_labels, with_alert, IsNumbered}
-use Rattle.amr_engine.proofs.StateLemmas.Rostering.{members_are}
+use Rattle.amr_engine.specs.State.State.{members_among}
+use Rattle.amr_engine.specs.State.Rostered.{Rostered, member_at}
+use Rattle.amr_engine.proofs.StateLemmas.Rostering.{no_members, members_found}
 use Rattle.amr_engine.proofs.state.roster.Roster.members_of.Goals as goal
+
+pub returns-in_default : goal.returns-in_default
+returns-in_default c =
+    let r = c.self.inside in
+    let group = c.args.group.now in
+    c.new.ensures.items ∙ no_members r.config r.placements r.timers r.homes.items r.members c.self.invariant.0 group (sym c.number_of.ensures.number ∙ c.in_default.is)
+    ∙ ap (λ (v : Rostered). members_among v.config (map_of route_labels_cmp v.placements) group) c.self.view_is
 
 pub returns : goal.returns
 returns c =
-    let t : Rostered = c.args.self.now in
+    let r = c.self.inside in
     let group = c.args.group.now in
-    subst (λ (all : List (LabelSet × Alert)). IfOk c.with_alerts.result (λ found. found.items ≡ all))
-    (ap (λ (v : Rostered). filter_map (with_alert (map_of route_labels_cmp v.placements) group.route) (labels_of_numbered c.as_slice.result.now)) c.self.view_is
-    ∙ ap (filter_map (with_alert (map_of route_labels_cmp t.placements) group.route)) (ap labels_of_numbered c.as_slice.ensures.value ∙ c.in_ok-members.ensures.labels)
-    ∙ members_are t.config group (map_of route_labels_cmp t.placements))
-    c.with_alerts.ensures
-
-pub with_alerts-requires : goal.with_alerts-requires
-with_alerts-requires c =
-    subst (λ (x : Rostered × List (Bor LabelSet × _)). All (IsNumbered x.0.placements c.args.group.now.route) (map numbered_labels x.1)) (λ i. (sym c.self.view_is i, sym c.as_slice.ensures.value i)) c.in_ok-members.ensures.numbers
+    let at : number_of route_labels_cmp r.timers group ≡ Some c.in-Some.number = sym c.number_of.ensures.number ∙ c.in-Some.is in
+    let found : List (LabelSet × Alert) = c.loop-member.found.items in
+    let found_is : found ≡ filter_map (member_at r.placements) c.in_ok-numbers.numbers.items =
+    sym (append-nil found) ∙ sym (at_drop_all (λ ns. found ++ filter_map (member_at c.args.self.now.placements) ns) _ _ c.loop-member-test.false) ∙ c.loop-member.invariant
+    ∙ (λ i. filter_map (member_at (sym c.self.view_is i).placements) (c.as_slice-member-items.ensures.value i)) in
+    let up : IsSortedBy (λ (x y : LabelSet × Alert). is_lt (label_set_cmp x.0 y.0)) c.sort_by.new.self.items =
+    c.in_ok-sort_by.ensures.sorted (λ x y. is_lt (label_set_cmp x.0 y.0)) (ranks_by label_set_cmp_total (λ (x : LabelSet × Alert). x.0)) (always_returns_same _ _ _ (λ a q f' k. search rules)) in
+    members_found r.config r.placements r.timers r.homes.items r.members c.self.invariant.0 group c.self.invariant.1.numbering c.in-Some.number at c.in_ok-numbers.numbers.items c.in_ok-numbers.ensures found c.sort_by.new.self.items found_is c.in_ok-sort_by.ensures.permutation up
+    ∙ ap (λ (v : Rostered). members_among v.config (map_of route_labels_cmp v.placements) group) c.self.view_is

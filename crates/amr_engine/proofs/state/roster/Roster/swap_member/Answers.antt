@@ -51,7 +51,7 @@ invariant_of-self c =
     let r = c.self.inside in
     let key = c.requires.0 in
     let number = ap (λ (t : Rostered). number_of route_labels_cmp t.placements key) c.self.view_is ∙ c.requires.1 in (
-      grouped_stays r.config r.placements r.timers r.homes.items r.members c.self.invariant.0 c.swap_at.new.self key c.args.number c.args.alert.now number c.swap_at.ensures.keys (c.swap_at.ensures.shown key number)
+      grouped_stays r.config r.placements r.timers r.homes.items r.members c.self.invariant.0 c.swap_at.new.self key c.args.number c.args.alert.now c.swap_at.ensures.numbering number c.swap_at.ensures.keys (c.swap_at.ensures.shown key number)
           (sym (ap is_some (c.at.ensures.key key number)) ∙ copied c.at.result ∙ sym c.is_some.ensures ∙ alike c.is_some.result c.is_some-2.result c.if-is_some.true ∙ c.is_some-2.ensures),
       c.self.invariant.1,
     )
@@ -62,7 +62,7 @@ invariant_of-self-2 c =
     let key = c.requires.0 in
     let n = c.args.number in
     let number = ap (λ (t : Rostered). number_of route_labels_cmp t.placements key) c.self.view_is ∙ c.requires.1 in (
-      grouped_set r.config r.placements r.timers r.homes.items r.members c.self.invariant.0 c.swap_at-2.new.self c.set.new.self key n c.args.alert.now number c.swap_at-2.ensures.keys (c.swap_at-2.ensures.shown key number)
+      grouped_set r.config r.placements r.timers r.homes.items r.members c.self.invariant.0 c.swap_at-2.new.self c.set.new.self key n c.args.alert.now c.swap_at-2.ensures.numbering number c.swap_at-2.ensures.keys (c.swap_at-2.ensures.shown key number)
           (c.set.ensures.groups ∙ ap (slice_set r.members.groups n) c.home_of_member-group.ensures) c.set.ensures.count,
       c.self.invariant.1,
     )

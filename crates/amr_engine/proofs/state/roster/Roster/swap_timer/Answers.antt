@@ -1,33 +1,34 @@
 use Rattle.std.proofs.Common.{◌≡◌, ◌||◌, Some, length, refl, ap, ◌∙◌}
 use Rattle.std.proofs.Math.Nat.{le_refl}
-use Rattle.std.specs.Prelude.{slice_set}
 use Rattle.std.specs.Ordering.{eq_by_cmp}
 use Rattle.amr_labels.specs.Map as map
 use Rattle.amr_tables.specs.Numbered.{map_of, number_of, has_place, is_entered}
 use Rattle.amr_engine.specs.State.Rostered.{Rostered}
-use Rattle.amr_config.specs.RouteLabels.{route_labels_cmp}
+use Rattle.amr_engine.specs.declared.state.due.Kind.TheVariants.{GroupRemoval, GroupFlush}
+use Rattle.amr_engine.specs.State.Timed.{group_moment}
+use Rattle.amr_config.specs.RouteLabels.{route_labels_cmp, route_labels_cmp_total, route_labels_cmp-IsAntisymmetric}
 use Rattle.amr_engine.proofs.StateLemmas.Rostering.{grouped_same}
-use Rattle.amr_engine.proofs.StateLemmas.Scheduling.{timer_set, ranked}
+use Rattle.amr_engine.proofs.StateLemmas.Scheduling.{scheduled_set, ordered_before}
 use Rattle.amr_engine.proofs.state.roster.Roster.swap_timer.Goals as goal
 
 pub swap_at-was_entered-requires : goal.swap_at-was_entered-requires
 swap_at-was_entered-requires c = (c.requires.0, ap (λ (v : Rostered). number_of route_labels_cmp v.timers c.requires.0) c.self.view_is ∙ c.requires.1)
 
-pub set-requires-clause-room : goal.set-requires-clause-room
-set-requires-clause-room c = c.self.invariant.1.flushed.room c.requires.0 c.args.number (ap (λ (v : Rostered). number_of route_labels_cmp v.timers c.requires.0) c.self.view_is ∙ c.requires.1)
+pub update-requires-clause-room : goal.update-requires-clause-room
+update-requires-clause-room c = c.self.invariant.1.flushed.room c.requires.0 c.args.number (ap (λ (v : Rostered). number_of route_labels_cmp v.timers c.requires.0) c.self.view_is ∙ c.requires.1)
 
-pub set-requires-2-clause-room : goal.set-requires-2-clause-room
-set-requires-2-clause-room c = c.self.invariant.1.removed.room c.requires.0 c.args.number (ap (λ (v : Rostered). number_of route_labels_cmp v.timers c.requires.0) c.self.view_is ∙ c.requires.1)
+pub update-requires-2-clause-room : goal.update-requires-2-clause-room
+update-requires-2-clause-room c = c.self.invariant.1.removed.room c.requires.0 c.args.number (ap (λ (v : Rostered). number_of route_labels_cmp v.timers c.requires.0) c.self.view_is ∙ c.requires.1)
 
-pub set-requires-clause-kept : goal.set-requires-clause-kept
-set-requires-clause-kept c =
+pub update-requires-clause-kept : goal.update-requires-clause-kept
+update-requires-clause-kept c =
     let t = c.self.inside in
-    ranked route_labels_cmp t.timers c.swap_at-was_entered.new.self c.swap_at-was_entered.ensures.keys t.flushes c.self.invariant.1.flushed.ordered
+    ordered_before route_labels_cmp_total route_labels_cmp-IsAntisymmetric (group_moment GroupFlush) t.timers c.swap_at-was_entered.new.self t.flushes c.args.number c.args.timer.now _ c.swap_at-was_entered.ensures.keys c.swap_at-was_entered.ensures.cells (c.group_moment-flush.ensures ∙ ap (group_moment GroupFlush) (c.as_ref.ensures.value ∙ c.swap_at-was_entered.ensures.value)) c.self.invariant.1.flushed.ordered
 
-pub set-requires-2-clause-kept : goal.set-requires-2-clause-kept
-set-requires-2-clause-kept c =
+pub update-requires-2-clause-kept : goal.update-requires-2-clause-kept
+update-requires-2-clause-kept c =
     let t = c.self.inside in
-    ranked route_labels_cmp t.timers c.swap_at-was_entered.new.self c.swap_at-was_entered.ensures.keys t.removals c.self.invariant.1.removed.ordered
+    ordered_before route_labels_cmp_total route_labels_cmp-IsAntisymmetric (group_moment GroupRemoval) t.timers c.swap_at-was_entered.new.self t.removals c.args.number c.args.timer.now _ c.swap_at-was_entered.ensures.keys c.swap_at-was_entered.ensures.cells (c.group_moment-removal.ensures ∙ ap (group_moment GroupRemoval) (c.as_ref-2.ensures.value ∙ c.swap_at-was_entered.ensures.value)) c.self.invariant.1.removed.ordered
 
 pub invariant_of-self : goal.invariant_of-self
 invariant_of-self c =
@@ -35,10 +36,12 @@ invariant_of-self c =
     let group = c.requires.0 in
     let n = c.args.number in
     let number : number_of route_labels_cmp t.timers group ≡ Some n = ap (λ (v : Rostered). number_of route_labels_cmp v.timers group) c.self.view_is ∙ c.requires.1 in (
-      grouped_same t.config t.placements t.timers t.homes.items t.members c.self.invariant.0 t.placements c.swap_at-was_entered.new.self t.members refl refl c.swap_at-was_entered.ensures.keys (λ n. refl) (le_refl (length t.members.groups)) (le_refl t.members.count),
-      timer_set t.timers t.removals t.flushes c.self.invariant.1 c.swap_at-was_entered.new.self c.set-2.new.self c.set.new.self group n c.args.timer.now number c.swap_at-was_entered.ensures.keys (c.swap_at-was_entered.ensures.shown group number)
-          (c.set-2.ensures.moments ∙ ap (slice_set t.removals.moments n) c.removal_moment-removal.ensures) c.set-2.ensures.held c.set-2.ensures.kept
-          (c.set.ensures.moments ∙ ap (slice_set t.flushes.moments n) c.flush_moment-flush.ensures) c.set.ensures.held c.set.ensures.kept,
+      grouped_same t.config t.placements t.timers t.homes.items t.members c.self.invariant.0 t.placements c.swap_at-was_entered.new.self t.members c.self.invariant.0.numbering refl refl c.swap_at-was_entered.ensures.keys (λ n. refl) (le_refl (length t.members.groups)) (le_refl t.members.count),
+      record {
+        numbering = c.swap_at-was_entered.ensures.numbering;
+        removed = scheduled_set route_labels_cmp_total route_labels_cmp-IsAntisymmetric (group_moment GroupRemoval) t.timers c.swap_at-was_entered.new.self t.removals c.update-2.new.self group n number c.swap_at-was_entered.ensures.keys c.update-2.ensures.room c.update-2.ensures.held c.update-2.ensures.kept c.self.invariant.1.removed;
+        flushed = scheduled_set route_labels_cmp_total route_labels_cmp-IsAntisymmetric (group_moment GroupFlush) t.timers c.swap_at-was_entered.new.self t.flushes c.update.new.self group n number c.swap_at-was_entered.ensures.keys c.update.ensures.room c.update.ensures.held c.update.ensures.kept c.self.invariant.1.flushed;
+      },
     )
 
 pub returns-clause-former : goal.returns-clause-former

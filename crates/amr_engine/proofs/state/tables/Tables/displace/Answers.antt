@@ -10,7 +10,7 @@ use Rattle.amr_engine.specs.declared.state.tables.Tables.{Tables}
 use Rattle.amr_config.specs.RouteLabels.{route_labels_cmp, route_labels_cmp_total}
 use Rattle.amr_engine.specs.State.State.{log_key_cmp, log_key_cmp_total}
 use Rattle.amr_engine.specs.State.Records.{after_change}
-use Rattle.amr_engine.specs.State.Fitting.{is_roster}
+use Rattle.amr_engine.specs.State.Allowed.{is_roster}
 use Rattle.amr_engine.specs.State.Stored.{shown_by, change_back, with_roster, MorePlaces, IsPlaceOf, is_marked_at}
 use Rattle.amr_engine.proofs.state.tables.Tables.displace.Goals as goal
 
