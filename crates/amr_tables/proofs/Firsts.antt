@@ -89,9 +89,9 @@ module _ (rank : ℕ → ℕ → Ordering) where
 
       -- ---- the earliest of all
 
-      earliest_is : (v : NumberedMoment) → IsCurrent moments v → ((s : NumberedMoment) → Stands e s → NotAfter v s) → IsEarliest rank moments v.number
+      earliest_is : (v : NumberedMoment) → IsCurrent moments v → ((s : NumberedMoment) → Stands e s → NotAfter v s) → IsEarliest rank moments v
       earliest_is v current least =
-          (v.moment, current, λ j x at. not_before v.moment x (rank v.number j) (least (record { moment = x; number = j }) (ordered.kept.stands (record { moment = x; number = j }) at)))
+          (current, λ j x at. not_before v.moment x (rank v.number j) (least (record { moment = x; number = j }) (ordered.kept.stands (record { moment = x; number = j }) at)))
 
       pub none_at_all : slice_get e.queue 0 ≡ None → first_of e.rest ≡ None → (n : ℕ) → moments n ≡ None
       none_at_all front winner n = by (moments n) refl
@@ -104,14 +104,14 @@ module _ (rank : ℕ → ℕ → Ordering) where
           by None at = refl
           by (Some m) at = absurd (none_stands m (ordered.kept.stands (record { moment = m; number = n }) at))
 
-      pub front_alone : (v : NumberedMoment) → slice_get e.queue 0 ≡ Some v → first_of e.rest ≡ None → IsEarliest rank moments v.number
+      pub front_alone : (v : NumberedMoment) → slice_get e.queue 0 ≡ Some v → first_of e.rest ≡ None → IsEarliest rank moments v
       front_alone v front winner = let first = front_least v front in earliest_is v first.0 (λ s stands. by s first.1 stands)
         where
           by : (s : NumberedMoment) → ((s : NumberedMoment) → StandsIn e.queue s → NotAfter v s) → Stands e s → NotAfter v s
           by s least (inl h) = least s h
           by s least (inr h) = absurd (no_winner winner s h)
 
-      pub winner_alone : (v : NumberedMoment) → slice_get e.queue 0 ≡ None → first_of e.rest ≡ Some v.number → tournament.moment_at e.rest v.number ≡ Some v.moment → IsEarliest rank moments v.number
+      pub winner_alone : (v : NumberedMoment) → slice_get e.queue 0 ≡ None → first_of e.rest ≡ Some v.number → tournament.moment_at e.rest v.number ≡ Some v.moment → IsEarliest rank moments v
       winner_alone v front wins at = let first = winner_least v wins at in earliest_is v first.0 (λ s stands. by s first.1 stands)
         where
           by : (s : NumberedMoment) → ((s : NumberedMoment) → tournament.moment_at e.rest s.number ≡ Some s.moment → NotAfter v s) → Stands e s → NotAfter v s
@@ -122,14 +122,14 @@ module _ (rank : ℕ → ℕ → Ordering) where
         through : (a b s : NumberedMoment) → NotAfter a b → NotAfter b s → NotAfter a s
         through a b s = not_after_then (timer_total order) (Some a.moment, a.number) (Some b.moment, b.number) (Some s.moment, s.number)
 
-        pub front_first : is_in_order rank f v ≡ true → IsEarliest rank moments f.number
+        pub front_first : is_in_order rank f v ≡ true → IsEarliest rank moments f
         front_first before = earliest_is f (front_least f front).0 (λ s stands. by s stands)
           where
             by : (s : NumberedMoment) → Stands e s → NotAfter f s
             by s (inl h) = (front_least f front).1 s h
             by s (inr h) = through f v s (not-true _ before) ((winner_least v wins at).1 s h)
 
-        pub winner_before : is_in_order rank f v ≡ false → IsEarliest rank moments v.number
+        pub winner_before : is_in_order rank f v ≡ false → IsEarliest rank moments v
         winner_before after = earliest_is v (winner_least v wins at).0 (λ s stands. by s stands)
           where
             earlier : NotAfter v f
@@ -208,16 +208,16 @@ module _ (moments : ℕ → Option ℕ) (n : ℕ) where
               ap (λ b. if b then former else moments k) here ∙ sym is ∙ ap moments (sym same)
           by (inr apart) = apart_from former k apart
 
-  -- without its moment, the others are left
-  pub less_than : (former : Option ℕ) → AreAmong (changed_back moments n None) (changed_back moments n former)
-  less_than former s =
+  -- without its moment, the others have theirs
+  pub others_former : (former : Option ℕ) → AreAmong (changed_back moments n None) (changed_back moments n former)
+  others_former former s =
       elim (s.number == n) as (λ b. (if b then None else moments s.number) ≡ Some s.moment → (if b then former else moments s.number) ≡ Some s.moment) [
         | true ↦ λ at. absurd (none-some s.moment at)
         | false ↦ λ at. at
       ]
 
-  pub less : AreAmong (changed_back moments n None) moments
-  less s =
+  pub others : AreAmong (changed_back moments n None) moments
+  others s =
       elim (s.number == n) as (λ b. (if b then None else moments s.number) ≡ Some s.moment → moments s.number ≡ Some s.moment) [
         | true ↦ λ at. absurd (none-some s.moment at)
         | false ↦ λ at. at

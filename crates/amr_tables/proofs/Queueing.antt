@@ -196,9 +196,6 @@ module _ (moments : ℕ → Option ℕ) (s : NumberedMoment) (now : IsCurrent mo
     -- ---- among the rest
 
     module _ (next : Tournament) (set : next.moments ≡ slice_set rest.moments s.number (Some s.moment)) (room : s.number < length rest.moments) where
-      abbrev at_next : (n : ℕ) → Option ℕ
-      at_next n = value_at (slice_set rest.moments s.number (Some s.moment)) n
-
       pub held_rest : (n : ℕ) → IsHeld (with queue next) n → IsHeld was n ⊎ (n ≡ s.number)
       held_rest n (m, inl h) = inl (m, inl h)
       held_rest n (m, inr h) = by (cases_eq n s.number)

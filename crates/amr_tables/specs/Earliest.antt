@@ -12,7 +12,7 @@ pub record Earliest : Type 0 where
   pub queue : List NumberedMoment
   pub rest : Tournament
 
--- below which number all may have a moment
+-- how many numbers may have a moment
 abbrev pub room : Earliest → ℕ
 room e = length e.rest.moments
 
@@ -86,8 +86,8 @@ module _ (rank : ℕ → ℕ → Ordering) where
       pub winner : IsWinnerCurrent moments e.rest
 
     -- no number has an earlier moment, and of those with the same moment the order puts none before
-    abbrev pub IsEarliest : ℕ → Type 0
-    IsEarliest n = (m : ℕ) × (moments n ≡ Some m) × ((j x : ℕ) → moments j ≡ Some x → (m < x) ⊎ ((m ≡ x) × (rank n j ≢ Greater)))
+    abbrev pub IsEarliest : NumberedMoment → Type 0
+    IsEarliest s = IsCurrent moments s × ((j x : ℕ) → moments j ≡ Some x → (s.moment < x) ⊎ ((s.moment ≡ x) × (rank s.number j ≢ Greater)))
 
 -- the orders agree on all numbers that are held
 abbrev pub AgreeOn : Earliest → (ℕ → ℕ → Ordering) → (ℕ → ℕ → Ordering) → Type 0

@@ -16,11 +16,11 @@ use std::cmp::Ordering;
 use std::collections::VecDeque;
 use std::marker::Model;
 
-/// A moment, in nanoseconds since 1970, and the number that it was set for.
+/// A moment, in nanoseconds since 1970, and the number that has it, or had it.
 #[derive(Clone, Copy)]
-struct NumberedMoment {
-    moment: u128,
-    number: usize,
+pub struct NumberedMoment {
+    pub moment: u128,
+    pub number: usize,
 }
 
 /// Which number of a schedule has the earliest moment. Most groups that are flushed are flushed again
@@ -59,12 +59,12 @@ impl Earliest {
 
     /// Makes room for the numbers below `count`. It makes at least twice the room that there is,
     /// since all matches are played anew.
-    pub fn reserve<O: Schedule>(&mut self, schedule: &O, count: usize) -> Result<(), AllocError>
-        requires { IsOrdered (O.rank schedule.now) (O.moments schedule.now) self.old }
+    pub fn reserve<S: Schedule>(&mut self, schedule: &S, count: usize) -> Result<(), AllocError>
+        requires { IsOrdered (S.rank schedule.now) (S.moments schedule.now) self.old }
         ensures room { OnOk result (count ≤ room self.new) }
         ensures more { room self.old ≤ room self.new }
         ensures held { (n : ℕ) → IsHeld self.new n → IsHeld self.old n }
-        ensures kept { IsOrdered (O.rank schedule.now) (O.moments schedule.now) self.new }
+        ensures kept { IsOrdered (S.rank schedule.now) (S.moments schedule.now) self.new }
     {
         self.rest.reserve(schedule, count)?;
         self.drop_winners(schedule);
@@ -83,13 +83,13 @@ impl Earliest {
     /// Takes up the moment that a number has in the schedule now, given the one that it had before.
     /// It takes no memory, and next to no time if the moment is the last or the first of the queue.
     #[inline(always)]
-    pub fn update<O: Schedule>(&mut self, schedule: &O, number: usize, former: Option<u128>)
+    pub fn update<S: Schedule>(&mut self, schedule: &S, number: usize, former: Option<u128>)
         requires room { number < room self.old }
-        requires kept { IsOrdered (O.rank schedule.now)
-            (changed_back (O.moments schedule.now) number former) self.old }
+        requires kept { IsOrdered (S.rank schedule.now)
+            (changed_back (S.moments schedule.now) number former) self.old }
         ensures room { room self.new ≡ room self.old }
         ensures held { (n : ℕ) → IsHeld self.new n → IsHeld self.old n ⊎ (n ≡ number) }
-        ensures kept { IsOrdered (O.rank schedule.now) (O.moments schedule.now) self.new }
+        ensures kept { IsOrdered (S.rank schedule.now) (S.moments schedule.now) self.new }
     {
         let moment = schedule.moment(number);
         if moment == former {
@@ -102,24 +102,24 @@ impl Earliest {
         self.drop_winners(schedule);
     }
 
-    /// Returns the number with the earliest moment; of equal moments, the one that the order puts
-    /// first.
-    pub fn first<O: Schedule>(&self, schedule: &O) -> Option<usize>
-        requires { IsOrdered (O.rank schedule.now) (O.moments schedule.now) self.now }
-        ensures some { IfSome result (λ n. IsTotalOrder (O.rank schedule.now)
-            → IsEarliest (O.rank schedule.now) (O.moments schedule.now) n) }
-        ensures none { IfNone result (IsTotalOrder (O.rank schedule.now)
-            → (n : ℕ) → O.moments schedule.now n ≡ None) }
+    /// Returns the earliest moment with its number; of equal moments, the one whose number the order
+    /// puts first.
+    pub fn first<S: Schedule>(&self, schedule: &S) -> Option<NumberedMoment>
+        requires { IsOrdered (S.rank schedule.now) (S.moments schedule.now) self.now }
+        ensures some { IfSome result (λ first. IsTotalOrder (S.rank schedule.now)
+            → IsEarliest (S.rank schedule.now) (S.moments schedule.now) first) }
+        ensures none { IfNone result (IsTotalOrder (S.rank schedule.now)
+            → (n : ℕ) → S.moments schedule.now n ≡ None) }
     {
         match (self.front(), self.winner()) {
             (None, None) => None,
-            (Some(front), None) => Some(front.number),
-            (None, Some(winner)) => Some(winner.number),
+            (Some(front), None) => Some(front),
+            (None, Some(winner)) => Some(winner),
             (Some(front), Some(winner)) => {
                 if is_in_order(schedule, front, winner) {
-                    Some(front.number)
+                    Some(front)
                 } else {
-                    Some(winner.number)
+                    Some(winner)
                 }
             }
         }
@@ -153,14 +153,14 @@ impl Earliest {
     /// Lets the moment that a number has now stand: at an end of the queue if it is in order there,
     /// else among the rest. Those of all other numbers stand already.
     #[inline(never)]
-    fn insert<O: Schedule>(&mut self, schedule: &O, standing: NumberedMoment)
+    fn insert<S: Schedule>(&mut self, schedule: &S, standing: NumberedMoment)
         requires room { standing.number < room self.old }
-        requires current { IsCurrent (O.moments schedule.now) standing }
-        requires kept { AreKept (O.rank schedule.now)
-            (changed_back (O.moments schedule.now) standing.number None) self.old }
+        requires current { IsCurrent (S.moments schedule.now) standing }
+        requires kept { AreKept (S.rank schedule.now)
+            (changed_back (S.moments schedule.now) standing.number None) self.old }
         ensures room { room self.new ≡ room self.old }
         ensures held { (n : ℕ) → IsHeld self.new n → IsHeld self.old n ⊎ (n ≡ standing.number) }
-        ensures kept { AreKept (O.rank schedule.now) (O.moments schedule.now) self.new }
+        ensures kept { AreKept (S.rank schedule.now) (S.moments schedule.now) self.new }
     {
         let has_room = self.queue.len() < self.queue.capacity();
         if has_room && are_in_order(schedule, self.last(), Some(standing)) {
@@ -174,14 +174,14 @@ impl Earliest {
     /// Lets the moment that a number has now stand: at the front of the queue if it is in order
     /// there, else among the rest.
     #[inline(never)]
-    fn insert_before<O: Schedule>(&mut self, schedule: &O, standing: NumberedMoment)
+    fn insert_before<S: Schedule>(&mut self, schedule: &S, standing: NumberedMoment)
         requires room { standing.number < room self.old }
-        requires current { IsCurrent (O.moments schedule.now) standing }
-        requires kept { AreKept (O.rank schedule.now)
-            (changed_back (O.moments schedule.now) standing.number None) self.old }
+        requires current { IsCurrent (S.moments schedule.now) standing }
+        requires kept { AreKept (S.rank schedule.now)
+            (changed_back (S.moments schedule.now) standing.number None) self.old }
         ensures room { room self.new ≡ room self.old }
         ensures held { (n : ℕ) → IsHeld self.new n → IsHeld self.old n ⊎ (n ≡ standing.number) }
-        ensures kept { AreKept (O.rank schedule.now) (O.moments schedule.now) self.new }
+        ensures kept { AreKept (S.rank schedule.now) (S.moments schedule.now) self.new }
     {
         let has_room = self.queue.len() < self.queue.capacity();
         if has_room && are_in_order(schedule, Some(standing), self.front()) {
@@ -193,14 +193,14 @@ impl Earliest {
     }
 
     /// Drops moments from the end of the queue, as long as they aren't current.
-    fn drop_last<O: Schedule>(&mut self, schedule: &O)
+    fn drop_last<S: Schedule>(&mut self, schedule: &S)
         ensures rest { self.new.rest ≡ self.old.rest }
         ensures queue { (s : NumberedMoment)
             → StandsIn self.new.queue s → StandsIn self.old.queue s }
         ensures kept { (rank : ℕ → ℕ → Ordering) (moments : ℕ → Option ℕ)
-            → AreAmong moments (O.moments schedule.now) → AreKept rank moments self.old
+            → AreAmong moments (S.moments schedule.now) → AreKept rank moments self.old
             → AreKept rank moments self.new }
-        ensures last { IfSome (last_or None self.new.queue) (IsCurrent (O.moments schedule.now)) }
+        ensures last { IfSome (last_or None self.new.queue) (IsCurrent (S.moments schedule.now)) }
     {
         while is_outdated(schedule, self.last()) {
             self.queue.pop_back();
@@ -208,13 +208,13 @@ impl Earliest {
     }
 
     /// Drops moments from the front of the queue, as long as they aren't current.
-    fn drop_first<O: Schedule>(&mut self, schedule: &O)
+    fn drop_first<S: Schedule>(&mut self, schedule: &S)
         ensures rest { self.new.rest ≡ self.old.rest }
         ensures queue { (s : NumberedMoment)
             → StandsIn self.new.queue s → StandsIn self.old.queue s }
-        ensures kept { AreKept (O.rank schedule.now) (O.moments schedule.now) self.old
-            → AreKept (O.rank schedule.now) (O.moments schedule.now) self.new }
-        ensures front { IsFrontCurrent (O.moments schedule.now) self.new.queue }
+        ensures kept { AreKept (S.rank schedule.now) (S.moments schedule.now) self.old
+            → AreKept (S.rank schedule.now) (S.moments schedule.now) self.new }
+        ensures front { IsFrontCurrent (S.moments schedule.now) self.new.queue }
     {
         while is_outdated(schedule, self.front()) {
             self.queue.pop_front();
@@ -222,13 +222,13 @@ impl Earliest {
     }
 
     /// Takes the winners of the rest out, as long as they aren't current.
-    fn drop_winners<O: Schedule>(&mut self, schedule: &O)
-        requires { AreKept (O.rank schedule.now) (O.moments schedule.now) self.old }
+    fn drop_winners<S: Schedule>(&mut self, schedule: &S)
+        requires { AreKept (S.rank schedule.now) (S.moments schedule.now) self.old }
         ensures queue { self.new.queue ≡ self.old.queue }
         ensures room { room self.new ≡ room self.old }
         ensures held { (n : ℕ) → IsHeld self.new n → IsHeld self.old n }
-        ensures kept { AreKept (O.rank schedule.now) (O.moments schedule.now) self.new }
-        ensures winner { IsWinnerCurrent (O.moments schedule.now) self.new.rest }
+        ensures kept { AreKept (S.rank schedule.now) (S.moments schedule.now) self.new }
+        ensures winner { IsWinnerCurrent (S.moments schedule.now) self.new.rest }
     {
         while let Some(number) = self.outdated_winner(schedule) {
             self.rest.set(schedule, number, None);
@@ -236,10 +236,10 @@ impl Earliest {
     }
 
     /// Returns the number that wins the rest with a moment that it doesn't have any more.
-    fn outdated_winner<O: Schedule>(&self, schedule: &O) -> Option<usize>
+    fn outdated_winner<S: Schedule>(&self, schedule: &S) -> Option<usize>
         ensures some { IfSome result (λ n. (first_of self.now.rest ≡ Some n)
-            × (tournament.moment_at self.now.rest n ≢ O.moments schedule.now n)) }
-        ensures none { IfNone result (IsWinnerCurrent (O.moments schedule.now) self.now.rest) }
+            × (tournament.moment_at self.now.rest n ≢ S.moments schedule.now n)) }
+        ensures none { IfNone result (IsWinnerCurrent (S.moments schedule.now) self.now.rest) }
     {
         let number = self.rest.first()?;
         if self.rest.at(number) == schedule.moment(number) {
@@ -250,9 +250,9 @@ impl Earliest {
 }
 
 /// Returns whether there is a moment that its number doesn't have any more.
-fn is_outdated<O: Schedule>(schedule: &O, standing: Option<NumberedMoment>) -> bool
-    ensures outdated { result ≡ true → IsOutdated (O.moments schedule.now) standing }
-    ensures current { result ≡ false → IfSome standing (IsCurrent (O.moments schedule.now)) }
+fn is_outdated<S: Schedule>(schedule: &S, standing: Option<NumberedMoment>) -> bool
+    ensures outdated { result ≡ true → IsOutdated (S.moments schedule.now) standing }
+    ensures current { result ≡ false → IfSome standing (IsCurrent (S.moments schedule.now)) }
 {
     match standing {
         None => false,
@@ -261,12 +261,12 @@ fn is_outdated<O: Schedule>(schedule: &O, standing: Option<NumberedMoment>) -> b
 }
 
 /// Returns whether two moments are in order, or one of them is missing.
-fn are_in_order<O: Schedule>(
-    schedule: &O,
+fn are_in_order<S: Schedule>(
+    schedule: &S,
     a: Option<NumberedMoment>,
     b: Option<NumberedMoment>,
 ) -> bool
-    ensures { result ≡ are_in_order (O.rank schedule.now) a b }
+    ensures { result ≡ are_in_order (S.rank schedule.now) a b }
 {
     match (a, b) {
         (Some(a), Some(b)) => is_in_order(schedule, a, b),
@@ -276,8 +276,8 @@ fn are_in_order<O: Schedule>(
 
 /// Returns whether the first moment isn't later than the second and, if they are equal, the order
 /// doesn't put its number after the other.
-fn is_in_order<O: Schedule>(schedule: &O, a: NumberedMoment, b: NumberedMoment) -> bool
-    ensures { result ≡ is_in_order (O.rank schedule.now) a b }
+fn is_in_order<S: Schedule>(schedule: &S, a: NumberedMoment, b: NumberedMoment) -> bool
+    ensures { result ≡ is_in_order (S.rank schedule.now) a b }
 {
     a.moment < b.moment
         || (a.moment == b.moment && schedule.compare(a.number, b.number) != Ordering::Greater)

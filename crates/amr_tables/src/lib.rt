@@ -14,7 +14,7 @@ mod schedule;
 mod tournament;
 mod values;
 
-pub use earliest::Earliest;
+pub use earliest::{Earliest, NumberedMoment};
 pub use grouped::Grouped;
 pub use journal::Journal;
 pub use key::Key;

@@ -69,12 +69,12 @@ impl Tournament {
 
     /// Makes room for the numbers below `count`, which have no moment yet. It makes at least twice
     /// the room that there is, since all matches are played anew.
-    pub fn reserve<O: Schedule>(&mut self, schedule: &O, count: usize) -> Result<(), AllocError>
-        requires { IsTournament (O.rank schedule.now) self.old }
+    pub fn reserve<S: Schedule>(&mut self, schedule: &S, count: usize) -> Result<(), AllocError>
+        requires { IsTournament (S.rank schedule.now) self.old }
         ensures room { OnOk result (count ≤ length self.new.moments) }
         ensures more { length self.old.moments ≤ length self.new.moments }
         ensures same { (n : ℕ) → moment_at self.new n ≡ moment_at self.old n }
-        ensures kept { IsTournament (O.rank schedule.now) self.new }
+        ensures kept { IsTournament (S.rank schedule.now) self.new }
         ensures err { OnErr result (self.new ≡ self.old) }
     {
         let numbers = self.moments.len();
@@ -91,9 +91,9 @@ impl Tournament {
     }
 
     /// Plays all matches anew, the last nodes first.
-    fn play_all<O: Schedule>(&mut self, schedule: &O)
+    fn play_all<S: Schedule>(&mut self, schedule: &S)
         ensures moments { self.new.moments ≡ self.old.moments }
-        ensures kept { IsTournament (O.rank schedule.now) self.new }
+        ensures kept { IsTournament (S.rank schedule.now) self.new }
     {
         let mut node = self.moments.len();
         while node > 1 {
@@ -105,11 +105,11 @@ impl Tournament {
     /// Sets or removes the moment of a number. Plays no match if the number has it already, and none
     /// above one that another number wins as before. It takes no memory.
     #[inline(never)]
-    pub fn set<O: Schedule>(&mut self, schedule: &O, number: usize, moment: Option<u128>)
+    pub fn set<S: Schedule>(&mut self, schedule: &S, number: usize, moment: Option<u128>)
         requires room { number < length self.old.moments }
-        requires kept { IsTournament (O.rank schedule.now) self.old }
+        requires kept { IsTournament (S.rank schedule.now) self.old }
         ensures moments { self.new.moments ≡ slice_set self.old.moments number moment }
-        ensures kept { IsTournament (O.rank schedule.now) self.new }
+        ensures kept { IsTournament (S.rank schedule.now) self.new }
     {
         if self.at(number) == moment {
             return;
@@ -128,13 +128,13 @@ impl Tournament {
     /// Lets the winners below a node play, and notes who wins. Returns who won there before. A new
     /// moment plays a dozen matches, so a call would cost a sixth of each.
     #[inline(always)]
-    fn play<O: Schedule>(&mut self, schedule: &O, node: usize) -> usize
+    fn play<S: Schedule>(&mut self, schedule: &S, node: usize) -> usize
         requires first { 1 ≤ node }
         requires inner { node < length self.old.moments }
         ensures former { result ≡ winner_at self.old node }
         ensures moments { self.new.moments ≡ self.old.moments }
         ensures winners { self.new.winners ≡ slice_set self.old.winners node
-            (later_winner (O.rank schedule.now) self.old node) }
+            (later_winner (S.rank schedule.now) self.old node) }
     {
         let left = self.winner(node * 2);
         let right = self.winner(node * 2 + 1);
@@ -157,9 +157,9 @@ impl Tournament {
 
     /// Returns whether the moment of a number is before that of another or, if they are equal, the
     /// order puts the number first. A number without a moment is last.
-    fn is_before<O: Schedule>(&self, schedule: &O, a: usize, b: usize) -> bool
+    fn is_before<S: Schedule>(&self, schedule: &S, a: usize, b: usize) -> bool
         ensures { result
-            ≡ is_lt (timer_cmp (O.rank schedule.now) (timer_at self.now a) (timer_at self.now b)) }
+            ≡ is_lt (timer_cmp (S.rank schedule.now) (timer_at self.now a) (timer_at self.now b)) }
     {
         match (self.at(a), self.at(b)) {
             (Some(moment), Some(other)) => {

@@ -17,6 +17,7 @@ use Rattle.amr_labels.specs.Labels.{LabelSet, label_set_cmp, label_set_cmp_total
 use Rattle.amr_rules.specs.Muting.{Alerts}
 use Rattle.amr_time.specs.Time.{Moment}
 use Rattle.amr_tables.proofs.Placing.{value_apart}
+use Rattle.amr_tables.specs.declared.earliest.NumberedMoment.{NumberedMoment}
 use Rattle.amr_tables.specs.Places.{value_at}
 use Rattle.amr_tables.specs.Numbered.{Numbered, map_of, has_place, number_of, next_number, key_with, key_at, rank_of, GetsNumber, IsNumber, IsNumbering}
 use Rattle.amr_tables.specs.Earliest.{Earliest, room, changed_back, IsHeld, IsOrdered, IsEarliest}
@@ -156,23 +157,22 @@ module _ {K V : Type 0} {R : K → K → Ordering} (o : IsTotalOrder R) (exact :
       not_none x _ (sym number.1.1 ∙ never number.0)
 
   -- the key that the number of the earliest moment names has this number
-  number_of_first : (t : Numbered K V) (e : Earliest) (n : ℕ) (key : K) → IsNumbering R t → IsScheduled R moment_of t e → IsEarliest (rank_of R t) (moments_in moment_of t) n → key_at t n ≡ Some key → number_of R t key ≡ Some n
-  number_of_first t e n key numbering is earliest named =
-      let by = named_moment t e is n earliest.0 earliest.1 in
-      let same : by.0 ≡ key = same_Some by.0 key (sym (key_at_number o exact t numbering by.0 n by.1) ∙ named) in
+  number_of_first : (t : Numbered K V) (e : Earliest) (s : NumberedMoment) (key : K) → IsNumbering R t → IsScheduled R moment_of t e → IsEarliest (rank_of R t) (moments_in moment_of t) s → key_at t s.number ≡ Some key → number_of R t key ≡ Some s.number
+  number_of_first t e s key numbering is earliest named =
+      let by = named_moment t e is s.number s.moment earliest.0 in
+      let same : by.0 ≡ key = same_Some by.0 key (sym (key_at_number o exact t numbering by.0 s.number by.1) ∙ named) in
       ap (number_of R t) (sym same) ∙ by.1
 
-  pub first_moment : (t : Numbered K V) (e : Earliest) (n : ℕ) (moment : Moment) (key : K) → moment_of None ≡ None → IsNumbering R t → IsScheduled R moment_of t e
-      → moments_in moment_of t n ≡ Some moment → IsEarliest (rank_of R t) (moments_in moment_of t) n → key_at t n ≡ Some key → IsFirstMoment (map_of R t) key moment
-  first_moment t e n moment key none numbering is at earliest named =
-      let number : number_of R t key ≡ Some n = number_of_first t e n key numbering is earliest named in
-      let first : earliest.0 ≡ moment = same_Some earliest.0 moment (sym earliest.1 ∙ at) in (
-        ap moment_of (value_at_number o exact t numbering key n number) ∙ at,
+  pub first_moment : (t : Numbered K V) (e : Earliest) (s : NumberedMoment) (key : K) → moment_of None ≡ None → IsNumbering R t → IsScheduled R moment_of t e
+      → IsEarliest (rank_of R t) (moments_in moment_of t) s → key_at t s.number ≡ Some key → IsFirstMoment (map_of R t) key s.moment
+  first_moment t e s key none numbering is earliest named =
+      let number : number_of R t key ≡ Some s.number = number_of_first t e s key numbering is earliest named in (
+        ap moment_of (value_at_number o exact t numbering key s.number number) ∙ earliest.0,
         λ other x later.
             let found = numbered_moment t none numbering other x later in
-            elim (earliest.2 found.0 x found.1.1) as (λ _. (moment < x) ⊎ ((moment ≡ x) × (is_gt (R key other) ≡ false))) [
-              | inl less ↦ inl (omega (arith, less, first))
-              | inr tie ↦ inr (sym first ∙ tie.0, not_gt (R key other) (λ gt. tie.1 ((λ i. option_cmp R (named i) (key_at_number o exact t numbering other found.0 found.1.0 i)) ∙ gt)))
+            elim (earliest.1 found.0 x found.1.1) as (λ _. (s.moment < x) ⊎ ((s.moment ≡ x) × (is_gt (R key other) ≡ false))) [
+              | inl less ↦ inl less
+              | inr tie ↦ inr (tie.0, not_gt (R key other) (λ gt. tie.1 ((λ i. option_cmp R (named i) (key_at_number o exact t numbering other found.0 found.1.0 i)) ∙ gt)))
             ],
       )
     where

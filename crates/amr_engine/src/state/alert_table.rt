@@ -290,11 +290,10 @@ impl<'a> AlertRemovals<'a> {
             (dues_of (map_of label_set_cmp self.entry.alerts.now) timers)
             (option_map due_of result) }
     {
-        let number = earliest.first(&self)?;
-        let moment = self.moment(number)?;
-        let labels = self.alerts.key_at(number)?;
+        let first = earliest.first(&self)?;
+        let labels = self.alerts.key_at(first.number)?;
         Some(Pending {
-            moment,
+            moment: first.moment,
             timer: TimerRef::AlertRemoval(labels),
         })
     }

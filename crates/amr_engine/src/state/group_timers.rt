@@ -54,11 +54,12 @@ impl<'a> GroupTimers<'a> {
             (dues_of alerts (map_of route_labels_cmp self.entry.timers.now))
             (option_map due_of result) }
     {
-        let number = earliest.first(&self)?;
-        let moment = self.moment(number)?;
-        let group = self.timers.key_at(number)?;
-        let timer = timer_of_kind(group, self.kind);
-        Some(Pending { moment, timer })
+        let first = earliest.first(&self)?;
+        let group = self.timers.key_at(first.number)?;
+        Some(Pending {
+            moment: first.moment,
+            timer: timer_of_kind(group, self.kind),
+        })
     }
 }
 

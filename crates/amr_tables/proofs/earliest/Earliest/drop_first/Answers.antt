@@ -7,8 +7,8 @@ use Rattle.amr_tables.proofs.earliest.Earliest.drop_first.Goals as goal
 pub loop-self-preserved : goal.loop-self-preserved
 loop-self-preserved g c =
     let e : Earliest = record { queue = c.self.inside.queue.items; rest = c.self.inside.rest } in
-    let rank = g.O.Schedule.rank c.args.schedule.now in
-    let moments = g.O.Schedule.moments c.args.schedule.now in
+    let rank = g.S.Schedule.rank c.args.schedule.now in
+    let moments = g.S.Schedule.moments c.args.schedule.now in
     let left : List NumberedMoment = c.pop_front.new.self.items in
     record {
       rest = ap (λ (x : Earliest). x.rest) c.self.view_is ∙ c.loop-self.invariant.rest;

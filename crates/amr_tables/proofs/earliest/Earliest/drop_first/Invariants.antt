@@ -7,7 +7,7 @@ abbrev pub invariant-loop-self : goal.invariant-loop-self
 invariant-loop-self g l = record {
   rest : l.self.rest ≡ l.initial.self.rest;
   queue : (s : NumberedMoment) → StandsIn l.self.queue s → StandsIn l.initial.self.queue s;
-  kept : AreKept (g.O.Schedule.rank l.schedule) (g.O.Schedule.moments l.schedule) l.initial.self → AreKept (g.O.Schedule.rank l.schedule) (g.O.Schedule.moments l.schedule) l.self;
+  kept : AreKept (g.S.Schedule.rank l.schedule) (g.S.Schedule.moments l.schedule) l.initial.self → AreKept (g.S.Schedule.rank l.schedule) (g.S.Schedule.moments l.schedule) l.self;
 }
 
 abbrev pub decreases-loop-self : goal.decreases-loop-self

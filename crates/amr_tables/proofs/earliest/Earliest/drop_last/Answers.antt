@@ -8,7 +8,7 @@ use Rattle.amr_tables.proofs.earliest.Earliest.drop_last.Goals as goal
 pub loop-self-preserved : goal.loop-self-preserved
 loop-self-preserved g c =
     let e : Earliest = record { queue = c.self.inside.queue.items; rest = c.self.inside.rest } in
-    let now = g.O.Schedule.moments c.args.schedule.now in
+    let now = g.S.Schedule.moments c.args.schedule.now in
     let left : List NumberedMoment = c.pop_back.new.self.items in
     record {
       rest = ap (λ (x : Earliest). x.rest) c.self.view_is ∙ c.loop-self.invariant.rest;

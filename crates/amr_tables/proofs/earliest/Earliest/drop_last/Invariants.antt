@@ -8,7 +8,7 @@ abbrev pub invariant-loop-self : goal.invariant-loop-self
 invariant-loop-self g l = record {
   rest : l.self.rest ≡ l.initial.self.rest;
   queue : (s : NumberedMoment) → StandsIn l.self.queue s → StandsIn l.initial.self.queue s;
-  kept : (rank : ℕ → ℕ → Ordering) (moments : ℕ → Option ℕ) → AreAmong moments (g.O.Schedule.moments l.schedule) → AreKept rank moments l.initial.self → AreKept rank moments l.self;
+  kept : (rank : ℕ → ℕ → Ordering) (moments : ℕ → Option ℕ) → AreAmong moments (g.S.Schedule.moments l.schedule) → AreKept rank moments l.initial.self → AreKept rank moments l.self;
 }
 
 abbrev pub decreases-loop-self : goal.decreases-loop-self

@@ -16,8 +16,8 @@ loop-number-smaller g c =
 pub loop-number-preserved : goal.loop-number-preserved
 loop-number-preserved g c =
     let e : Earliest = record { queue = c.self.inside.queue.items; rest = c.self.inside.rest } in
-    let rank = g.O.Schedule.rank c.args.schedule.now in
-    let moments = g.O.Schedule.moments c.args.schedule.now in
+    let rank = g.S.Schedule.rank c.args.schedule.now in
+    let moments = g.S.Schedule.moments c.args.schedule.now in
     let n = c.in-Some.number in
     let wins : first_of e.rest ≡ Some n = ap (λ (x : Earliest). first_of x.rest) c.self.view_is ∙ c.in-Some.ensures.some.0 in
     let outdated : tournament.moment_at e.rest n ≢ moments n = subst (λ (x : Earliest). tournament.moment_at x.rest n ≢ moments n) (sym c.self.view_is) c.in-Some.ensures.some.1 in

@@ -8,7 +8,7 @@ invariant-loop-number g l = record {
   queue : l.self.queue ≡ l.initial.self.queue;
   room : room l.self ≡ room l.initial.self;
   held : (n : ℕ) → IsHeld l.self n → IsHeld l.initial.self n;
-  kept : AreKept (g.O.Schedule.rank l.schedule) (g.O.Schedule.moments l.schedule) l.self;
+  kept : AreKept (g.S.Schedule.rank l.schedule) (g.S.Schedule.moments l.schedule) l.self;
 }
 
 abbrev pub decreases-loop-number : goal.decreases-loop-number

@@ -1,28 +1,28 @@
 use Rattle.std.proofs.Common.{rules, inl, None, sym, subst, ◌∙◌}
 use Rattle.amr_tables.specs.Earliest.{IsHeld, IsOrdered, changed_back, AreKept}
-use Rattle.amr_tables.proofs.Firsts.{changed_nothing, less_than, kept_among, held_shorter}
+use Rattle.amr_tables.proofs.Firsts.{changed_nothing, others_former, kept_among, held_shorter}
 use Rattle.amr_tables.proofs.earliest.Earliest.update.Goals as goal
 use Rattle.amr_tables.proofs.earliest.Earliest.update.Goals.{in-Some, in_default}
 
 pub returns-then-eq-clause-kept : goal.returns-then-eq-clause-kept
 returns-then-eq-clause-kept g c =
-    subst (λ moments. IsOrdered (g.O.Schedule.rank c.args.schedule.now) moments c.args.self.now)
-    (changed_nothing (g.O.Schedule.moments c.args.schedule.now) c.args.number c.args.former (sym c.moment-moment.ensures ∙ search rules)) c.requires.kept
+    subst (λ moments. IsOrdered (g.S.Schedule.rank c.args.schedule.now) moments c.args.self.now)
+    (changed_nothing (g.S.Schedule.moments c.args.schedule.now) c.args.number c.args.former (sym c.moment-moment.ensures ∙ search rules)) c.requires.kept
 
 pub insert-requires-clause-kept : goal.insert-requires-clause-kept
 insert-requires-clause-kept g c =
-    let moments = g.O.Schedule.moments c.args.schedule.now in
-    kept_among (g.O.Schedule.rank c.args.schedule.now) (changed_back moments c.args.number None) (changed_back moments c.args.number c.args.former) c.args.self.now (less_than moments c.args.number c.args.former) c.requires.kept.kept
+    let moments = g.S.Schedule.moments c.args.schedule.now in
+    kept_among (g.S.Schedule.rank c.args.schedule.now) (changed_back moments c.args.number None) (changed_back moments c.args.number c.args.former) c.args.self.now (others_former moments c.args.number c.args.former) c.requires.kept.kept
 
 pub drop_winners-requires : goal.drop_winners-requires
 drop_winners-requires g c =
-    let rank = g.O.Schedule.rank c.args.schedule.now in
-    let moments = g.O.Schedule.moments c.args.schedule.now in
+    let rank = g.S.Schedule.rank c.args.schedule.now in
+    let moments = g.S.Schedule.moments c.args.schedule.now in
     let n = c.args.number in
     c.drop_first.ensures.kept (elim c.match-moment.branch [
       | in-Some w ↦ subst (AreKept rank moments) (sym w.self-is) w.insert.ensures.kept
       | in_default w ↦
-          let without : AreKept rank (changed_back moments n None) c.args.self.now = kept_among rank (changed_back moments n None) (changed_back moments n c.args.former) c.args.self.now (less_than moments n c.args.former) c.requires.kept.kept in
+          let without : AreKept rank (changed_back moments n None) c.args.self.now = kept_among rank (changed_back moments n None) (changed_back moments n c.args.former) c.args.self.now (others_former moments n c.args.former) c.requires.kept.kept in
           subst (AreKept rank moments) (sym w.self-is) (subst (λ ms. AreKept rank ms c.args.self.now) (changed_nothing moments n None (sym c.moment-moment.ensures ∙ w.in_default.is)) without)
     ])
 

@@ -8,7 +8,7 @@ pub loop-node-preserved : goal.loop-node-preserved
 loop-node-preserved g c =
     let t : Tournament = c.loop-node.self in
     let node = c.loop-node.node - 1 in
-    let rank = g.O.Schedule.rank c.args.schedule.now in
+    let rank = g.S.Schedule.rank c.args.schedule.now in
     let one : 1 ≤ node = grind (arith, nat_tests) in
     let inner : node < length t.moments = grind (arith, nat_tests) in
     record {

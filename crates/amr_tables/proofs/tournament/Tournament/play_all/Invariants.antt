@@ -7,7 +7,7 @@ invariant-loop-node g l = record {
   moments : l.self.moments ≡ l.initial.self.moments;
   inner : l.node ≤ length l.self.moments;
   nodes : length l.self.winners ≡ length l.self.moments;
-  played : (j : ℕ) → 1 ≤ j → l.node ≤ j → j < length l.self.moments → winner_at l.self j ≡ later_winner (g.O.Schedule.rank l.schedule) l.self j;
+  played : (j : ℕ) → 1 ≤ j → l.node ≤ j → j < length l.self.moments → winner_at l.self j ≡ later_winner (g.S.Schedule.rank l.schedule) l.self j;
 }
 
 abbrev pub decreases-loop-node : goal.decreases-loop-node

@@ -8,7 +8,7 @@ use Rattle.amr_tables.proofs.tournament.Tournament.set.Goals as goal
 pub loop-node-init : goal.loop-node-init
 loop-node-init g c =
     let t : Tournament = record { moments = c.self.inside.moments.items; winners = c.self.inside.winners.items } in
-    let rank = g.O.Schedule.rank c.args.schedule.now in
+    let rank = g.S.Schedule.rank c.args.schedule.now in
     let len : length (slice_set t.moments c.args.number c.args.moment) ≡ length t.moments = length-set t.moments c.args.number c.args.moment in
     let room : c.args.number < length t.moments = subst (λ (x : Tournament). c.args.number < length x.moments) (sym c.self.view_is) c.requires.room in
     let played : IsTournament rank t = subst (IsTournament rank) (sym c.self.view_is) c.requires.kept in
@@ -26,7 +26,7 @@ pub loop-node-preserved : goal.loop-node-preserved
 loop-node-preserved g c =
     let t : Tournament = record { moments = slice_set c.self.inside.moments.items c.args.number c.args.moment; winners = c.self.inside.winners.items } in
     let u : Tournament = c.loop-node.self in
-    let rank = g.O.Schedule.rank c.args.schedule.now in
+    let rank = g.S.Schedule.rank c.args.schedule.now in
     let node = c.loop-node.node in
     let bounds = half_bounds node (length u.moments) (grind (arith, nat_tests)) c.loop-node.invariant.inner in
     record {
@@ -42,7 +42,7 @@ pub returns-then-winner-former-clause-kept : goal.returns-then-winner-former-cla
 returns-then-winner-former-clause-kept g c =
     let t : Tournament = record { moments = slice_set c.self.inside.moments.items c.args.number c.args.moment; winners = c.self.inside.winners.items } in
     let u : Tournament = c.loop-node.self in
-    let rank = g.O.Schedule.rank c.args.schedule.now in
+    let rank = g.S.Schedule.rank c.args.schedule.now in
     let n = c.args.number in
     let node = c.loop-node.node in
     let bounds = half_bounds node (length u.moments) (grind (arith, nat_tests)) c.loop-node.invariant.inner in
@@ -58,7 +58,7 @@ returns-then-winner-former-clause-kept g c =
 pub returns-clause-kept : goal.returns-clause-kept
 returns-clause-kept g c =
     let t : Tournament = record { moments = slice_set c.self.inside.moments.items c.args.number c.args.moment; winners = c.self.inside.winners.items } in
-    ended (g.O.Schedule.rank c.args.schedule.now) c.args.number t c.loop-node.self c.loop-node.node c.loop-node.invariant.climbed c.loop-node.invariant.moments (grind (arith, nat_tests))
+    ended (g.S.Schedule.rank c.args.schedule.now) c.args.number t c.loop-node.self c.loop-node.node c.loop-node.invariant.climbed c.loop-node.invariant.moments (grind (arith, nat_tests))
 
 pub returns-then-eq-clause-moments : goal.returns-then-eq-clause-moments
 returns-then-eq-clause-moments g c = same_value_set c.args.self.now.moments c.args.number c.args.moment c.requires.room (sym c.at.ensures ∙ search rules)

@@ -8,7 +8,7 @@ invariant-loop-node g l = record {
   first : 1 ≤ l.node;
   inner : l.node < length l.self.moments + length l.self.moments;
   nodes : length l.self.winners ≡ length l.self.moments;
-  climbed : IsClimbed (g.O.Schedule.rank l.schedule) l.number l.initial.self l.self l.node;
+  climbed : IsClimbed (g.S.Schedule.rank l.schedule) l.number l.initial.self l.self l.node;
 }
 
 abbrev pub decreases-loop-node : goal.decreases-loop-node

@@ -12,32 +12,26 @@ use Rattle.amr_engine.specs.State.Timed.{alert_moment, due_of, IsFirstOfKind}
 use Rattle.amr_engine.proofs.StateLemmas.Scheduling.{first_moment, no_moment, first_alert, no_alert, named_moment, not_none}
 use Rattle.amr_engine.proofs.state.alert_table.AlertRemovals.first.Goals as goal
 
-pub returns-in_err-number : goal.returns-in_err-number
-returns-in_err-number c = λ timers.
+pub returns-in_err-first : goal.returns-in_err-first
+returns-in_err-first c = λ timers.
     let a = c.args.self.alerts.now in
     subst (λ (r : Option Pending). IsFirstOfKind AlertRemoval (dues_of (map_of label_set_cmp a) timers) (option_map due_of r)) (sym c.from_residual.ensures)
-    (no_alert (map_of label_set_cmp a) timers (no_moment label_set_cmp_total label_set_cmp-IsAntisymmetric alert_moment a refl c.requires.numbering (c.in_err-number.ensures.none (rank_of-total label_set_cmp_total a))))
+    (no_alert (map_of label_set_cmp a) timers (no_moment label_set_cmp_total label_set_cmp-IsAntisymmetric alert_moment a refl c.requires.numbering (c.in_err-first.ensures.none (rank_of-total label_set_cmp_total a))))
 
 pub returns-in_err-labels : goal.returns-in_err-labels
 returns-in_err-labels c = λ timers.
     let a = c.args.self.alerts.now in
-    let n = c.in_ok-number.number in
-    let first = c.in_ok-number.ensures.some (rank_of-total label_set_cmp_total a) in
-    let by = named_moment label_set_cmp_total label_set_cmp-IsAntisymmetric alert_moment a c.args.earliest.now c.requires.scheduled n first.0 first.1 in
-    not_none by.0 _ (sym (key_at_number label_set_cmp_total label_set_cmp-IsAntisymmetric a c.requires.numbering by.0 n by.1) ∙ sym c.key_at.ensures.key ∙ ap option_copied c.in_err-labels.was)
+    let first = c.in_ok-first.first in
+    let at = (c.in_ok-first.ensures.some (rank_of-total label_set_cmp_total a)).0 in
+    let by = named_moment label_set_cmp_total label_set_cmp-IsAntisymmetric alert_moment a c.args.earliest.now c.requires.scheduled first.number first.moment at in
+    not_none by.0 _ (sym (key_at_number label_set_cmp_total label_set_cmp-IsAntisymmetric a c.requires.numbering by.0 first.number by.1) ∙ sym c.key_at.ensures.key ∙ ap option_copied c.in_err-labels.was)
 
 pub returns : goal.returns
 returns c = λ timers.
     let a = c.args.self.alerts.now in
-    let n = c.in_ok-number.number in
+    let first = c.in_ok-first.first in
     let labels = c.in_ok-labels.labels.now in
-    let moment = c.in_ok-moment.moment in
-    let named : key_at a n ≡ Some labels = sym c.key_at.ensures.key ∙ ap option_copied c.in_ok-labels.was in
-    first_alert (map_of label_set_cmp a) timers labels moment
-    (first_moment label_set_cmp_total label_set_cmp-IsAntisymmetric alert_moment a c.args.earliest.now n moment labels refl c.requires.numbering c.requires.scheduled
-    (sym c.moment.ensures ∙ c.in_ok-moment.was) (c.in_ok-number.ensures.some (rank_of-total label_set_cmp_total a)) named)
-
-pub returns-in_err-moment : goal.returns-in_err-moment
-returns-in_err-moment c = λ timers.
-    let first = c.in_ok-number.ensures.some (rank_of-total label_set_cmp_total c.args.self.alerts.now) in
-    not_none first.0 _ (sym first.1 ∙ sym c.moment.ensures ∙ c.in_err-moment.was)
+    let named : key_at a first.number ≡ Some labels = sym c.key_at.ensures.key ∙ ap option_copied c.in_ok-labels.was in
+    first_alert (map_of label_set_cmp a) timers labels first.moment
+    (first_moment label_set_cmp_total label_set_cmp-IsAntisymmetric alert_moment a c.args.earliest.now first labels refl c.requires.numbering c.requires.scheduled
+    (c.in_ok-first.ensures.some (rank_of-total label_set_cmp_total a)) named)

@@ -11,41 +11,35 @@ use Rattle.amr_engine.specs.State.Timed.{group_moment, timer_of, due_of, IsFirst
 use Rattle.amr_engine.proofs.StateLemmas.Scheduling.{first_moment, no_moment, first_group, no_group, group_none, named_moment, not_none}
 use Rattle.amr_engine.proofs.state.group_timers.GroupTimers.first.Goals as goal
 
-pub returns-in_err-number : goal.returns-in_err-number
-returns-in_err-number c = λ alerts.
+pub returns-in_err-first : goal.returns-in_err-first
+returns-in_err-first c = λ alerts.
     let t = c.args.self.timers.now in
     let kind = c.args.self.kind in
     subst (λ (r : Option Pending). IsFirstOfKind kind (dues_of alerts (map_of route_labels_cmp t)) (option_map due_of r)) (sym c.from_residual.ensures)
     (no_group alerts (map_of route_labels_cmp t) kind c.requires.group
-    (no_moment route_labels_cmp_total route_labels_cmp-IsAntisymmetric (group_moment kind) t (group_none kind) c.requires.numbering (c.in_err-number.ensures.none (rank_of-total route_labels_cmp_total t))))
+    (no_moment route_labels_cmp_total route_labels_cmp-IsAntisymmetric (group_moment kind) t (group_none kind) c.requires.numbering (c.in_err-first.ensures.none (rank_of-total route_labels_cmp_total t))))
 
 pub returns-in_err-group : goal.returns-in_err-group
 returns-in_err-group c = λ alerts.
     let t = c.args.self.timers.now in
-    let n = c.in_ok-number.number in
-    let first = c.in_ok-number.ensures.some (rank_of-total route_labels_cmp_total t) in
-    let by = named_moment route_labels_cmp_total route_labels_cmp-IsAntisymmetric (group_moment c.args.self.kind) t c.args.earliest.now c.requires.scheduled n first.0 first.1 in
-    not_none by.0 _ (sym (key_at_number route_labels_cmp_total route_labels_cmp-IsAntisymmetric t c.requires.numbering by.0 n by.1) ∙ sym c.key_at.ensures.key ∙ ap option_copied c.in_err-group.was)
+    let first = c.in_ok-first.first in
+    let at = (c.in_ok-first.ensures.some (rank_of-total route_labels_cmp_total t)).0 in
+    let by = named_moment route_labels_cmp_total route_labels_cmp-IsAntisymmetric (group_moment c.args.self.kind) t c.args.earliest.now c.requires.scheduled first.number first.moment at in
+    not_none by.0 _ (sym (key_at_number route_labels_cmp_total route_labels_cmp-IsAntisymmetric t c.requires.numbering by.0 first.number by.1) ∙ sym c.key_at.ensures.key ∙ ap option_copied c.in_err-group.was)
 
 pub returns : goal.returns
 returns c = λ alerts.
     let t = c.args.self.timers.now in
     let kind = c.args.self.kind in
-    let n = c.in_ok-number.number in
-    let first = c.in_ok-number.ensures.some (rank_of-total route_labels_cmp_total t) in
-    let named : key_at t n ≡ Some c.in_ok-group.group.now = sym c.key_at.ensures.key ∙ ap option_copied c.in_ok-group.was in
+    let first = c.in_ok-first.first in
+    let named : key_at t first.number ≡ Some c.in_ok-group.group.now = sym c.key_at.ensures.key ∙ ap option_copied c.in_ok-group.was in
     let group = c.in_ok-group.group.now in
-    let moment = c.in_ok-moment.moment in
-    let kinds = sym c.timer_of_kind-timer.ensures.kind in
-    let groups = sym c.timer_of_kind-timer.ensures.group in
-    let is : record { moment = moment; kind = kind; route = group.route; labels = group.labels } ≡ due_at moment (timer_of c.timer_of_kind-timer.result) =
+    let moment = first.moment in
+    let kinds = sym c.timer_of_kind.ensures.kind in
+    let groups = sym c.timer_of_kind.ensures.group in
+    let is : record { moment = moment; kind = kind; route = group.route; labels = group.labels } ≡ due_at moment (timer_of c.timer_of_kind.result) =
     λ i. record { moment = moment; kind = kinds i; route = (groups i).route; labels = (groups i).labels } in
     subst (λ due. IsFirstOfKind kind (dues_of alerts (map_of route_labels_cmp t)) (Some due)) is
     (first_group alerts (map_of route_labels_cmp t) kind c.requires.group group moment
-    (first_moment route_labels_cmp_total route_labels_cmp-IsAntisymmetric (group_moment kind) t c.args.earliest.now n moment group (group_none kind) c.requires.numbering c.requires.scheduled
-    (sym c.moment.ensures ∙ c.in_ok-moment.was) first named))
-
-pub returns-in_err-moment : goal.returns-in_err-moment
-returns-in_err-moment c = λ alerts.
-    let first = c.in_ok-number.ensures.some (rank_of-total route_labels_cmp_total c.args.self.timers.now) in
-    not_none first.0 _ (sym first.1 ∙ sym c.moment.ensures ∙ c.in_err-moment.was)
+    (first_moment route_labels_cmp_total route_labels_cmp-IsAntisymmetric (group_moment kind) t c.args.earliest.now first group (group_none kind) c.requires.numbering c.requires.scheduled
+    (c.in_ok-first.ensures.some (rank_of-total route_labels_cmp_total t)) named))
