@@ -4,8 +4,8 @@ pub mod Placing
 pub mod Stamping
 pub mod Numbering
 pub mod Sorting
-pub mod Linking
-pub mod Walking
+pub mod Seating
+pub mod Present
 pub mod Closing
 pub mod Playing
 pub mod Queueing

@@ -1,39 +1,60 @@
--- Numbers in groups, and the links between the numbers of a group.
-use Rattle.std.specs.Prelude.{◌≡◌, ◌==◌, ℕ, ◌<◌, ◌≤◌, List, Option, Some, None, IsTrue, length}
+-- Numbers in groups, and the positions of the numbers of a group.
+use Rattle.std.specs.Prelude.{◌≡◌, ◌==◌, ◌&&◌, ℕ, ◌≤◌, Bool, List, Option, Some, IsTrue, length, nat_lt, slice_get, option_map, option_and_then}
+use Rattle.std.specs.Option.{option_map_or}
 use Rattle.std.specs.List.{list_any, IsDistinct}
-use Rattle.amr_tables.specs.Places.{value_at}
-use Rattle.amr_tables.specs.declared.grouped.Links.{Links}
+use Rattle.std.specs.Vec.{vec_len, vec_capacity}
+use Rattle.amr_tables.specs.Places.{is_marked}
+use Rattle.amr_tables.specs.declared.grouped.Seat.{Seat}
+use Rattle.amr_tables.specs.declared.grouped.Row.{Row}
 
--- the group of each number, if it is in one, and how many groups there are
+-- The group that each number belongs to, which numbers are in theirs, and which groups have room for
+-- one more number.
 pub record Grouped : Type 0 where
-  pub groups : List (Option ℕ)
-  pub count : ℕ
+  pub homes : List ℕ
+  pub present : List Bool
+  pub rooms : List Bool
 
--- the group of a number, if it is in one
-abbrev pub group_at : Grouped → ℕ → Option ℕ
-group_at g n = value_at g.groups n
+-- the number is in this group
+abbrev pub IsIn : Grouped → ℕ → ℕ → Type 0
+IsIn g n group = (slice_get g.homes n ≡ Some group) × IsTrue (is_marked g.present n)
 
 -- the list has the numbers that are in the group, each once
 pub record AreNumbersOf (g : Grouped) (group : ℕ) (numbers : List ℕ) : Type 0 where
   pub distinct : IsDistinct (λ (a b : ℕ). a == b) numbers
-  pub members : (n : ℕ) → IsTrue (list_any (λ m. n == m) numbers) → group_at g n ≡ Some group
-  pub all : (n : ℕ) → group_at g n ≡ Some group → IsTrue (list_any (λ m. n == m) numbers)
+  pub members : (n : ℕ) → IsTrue (list_any (λ m. n == m) numbers) → IsIn g n group
+  pub all : (n : ℕ) → IsIn g n group → IsTrue (list_any (λ m. n == m) numbers)
 
--- Each number of a group is linked with the one before it and the one after it, and the group with
--- its first. Going back from any number, one comes to the first.
-pub record Linked (group next previous head : ℕ → Option ℕ) : Type 0 where
-  pub depth : ℕ → ℕ
-  pub next_in : (n m g : ℕ) → group n ≡ Some g → next n ≡ Some m → group m ≡ Some g
-  pub next_back : (n m g : ℕ) → group n ≡ Some g → next n ≡ Some m → previous m ≡ Some n
-  pub previous_in : (n m g : ℕ) → group n ≡ Some g → previous n ≡ Some m → group m ≡ Some g
-  pub previous_back : (n m g : ℕ) → group n ≡ Some g → previous n ≡ Some m → next m ≡ Some n
-  pub deeper : (n m g : ℕ) → group n ≡ Some g → previous n ≡ Some m → depth m < depth n
-  pub first : (n g : ℕ) → group n ≡ Some g → previous n ≡ None → head g ≡ Some n
-  pub first_in : (n g : ℕ) → head g ≡ Some n → group n ≡ Some g
-  pub first_none : (n g : ℕ) → head g ≡ Some n → previous n ≡ None
+-- the number at a position of a group
+abbrev pub number_at : List Row → ℕ → ℕ → Option ℕ
+number_at rows group position = option_and_then (λ (row : Row). slice_get row.numbers.items position) (slice_get rows group)
 
--- the numbers are linked, and there is room for the links of each
-pub record AreLinked (l : Links) : Type 0 where
-  pub linked : Linked (value_at l.groups.items) (value_at l.next.items) (value_at l.previous.items) (value_at l.firsts.items)
-  pub next_room : length l.groups.items ≤ length l.next.items
-  pub previous_room : length l.groups.items ≤ length l.previous.items
+-- how many numbers are in a group
+abbrev pub count_at : List Row → ℕ → ℕ
+count_at rows group = option_map_or (λ (row : Row). row.count) (slice_get rows group) 0
+
+-- the group that a number belongs to
+abbrev pub home_at : List Seat → ℕ → Option ℕ
+home_at seats n = option_map (λ (seat : Seat). seat.group) (slice_get seats n)
+
+-- the position of a number in its group
+abbrev pub position_at : List Seat → ℕ → ℕ
+position_at seats n = option_map_or (λ (seat : Seat). seat.position) (slice_get seats n) 0
+
+-- the number with this seat is in its group
+abbrev pub is_seated_in : List Row → Seat → Bool
+is_seated_in rows seat = nat_lt seat.position (count_at rows seat.group)
+
+-- there is room for one more number in this group, if there is for one more seat
+abbrev pub has_room : Bool → Row → Bool
+has_room seat row = seat && nat_lt (vec_len row.numbers) (vec_capacity row.numbers)
+
+-- Each number is at its position of its group, and no number is at another.
+pub record Seated (home : ℕ → Option ℕ) (position : ℕ → ℕ) (at : ℕ → ℕ → Option ℕ) : Type 0 where
+  pub there : (n g : ℕ) → home n ≡ Some g → at g (position n) ≡ Some n
+  pub homed : (g i n : ℕ) → at g i ≡ Some n → home n ≡ Some g
+  pub placed : (g i n : ℕ) → at g i ≡ Some n → position n ≡ i
+
+-- and no group has more numbers in it than belong to it
+pub record IsSeating (seats : List Seat) (rows : List Row) : Type 0 where
+  pub seated : Seated (home_at seats) (position_at seats) (number_at rows)
+  pub counted : (g : ℕ) (row : Row) → slice_get rows g ≡ Some row → row.count ≤ length row.numbers.items

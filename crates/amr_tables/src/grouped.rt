@@ -1,202 +1,149 @@
-//! Numbers in groups: which group a number is in, and which numbers a group has. The members of
-//! alert groups are kept like this. All memory is taken before a number joins a group, so that
-//! undoing an event takes none.
-ghost use Rattle.std.specs.Prelude.{◌≡◌, ◌<◌, ◌≤◌, ℕ, [], None, Some, length, OnOk, IfOk, IfSome, slice_set, max};
-ghost use Rattle.amr_tables.specs.Places.{value_at};
-ghost use Rattle.amr_tables.specs.Grouped.{Grouped, group_at, AreNumbersOf, AreLinked};
+//! Numbers in groups: each number belongs to one group for good, and is in it or not. The members of
+//! alert groups are kept like this. All memory is taken when a number is added, so that undoing an
+//! event takes none.
+ghost use Rattle.std.specs.Prelude.{◌≡◌, ◌==◌, ◌+◌, ◌<◌, ◌≤◌, ◌++◌, ℕ, [], ◌∷◌, Some, false, true, cond, length, map, slice_get, OnOk, IfOk};
+ghost use Rattle.amr_tables.specs.Places.{is_marked};
+ghost use Rattle.amr_tables.specs.Grouped.{Grouped, AreNumbersOf};
 
 use std::alloc::{AllocError, Global};
 use std::marker::Model;
 
-/// Numbers, each in one group or in none.
+/// Numbers, each of one group, and in it or not.
 #[derive(Drop)]
 pub struct Grouped {
     alloc: Global,
-    links: Links,
+    seats: Vec<Seat>,
+    rows: Vec<Row>,
 }
 
-/// The numbers of each group, linked with each other, so that one can leave its group and join
-/// another without memory.
+/// The group of a number, and its position in the row of that group.
+#[derive(Clone, Copy)]
+struct Seat {
+    group: usize,
+    position: usize,
+}
+
+/// The numbers of a group. Those that are in it stand in front, so that a number comes or leaves by
+/// changing places with one other.
 #[derive(Drop)]
-struct Links {
-    /// The group of each number.
-    groups: Vec<Option<usize>>,
-    /// The number after each one in its group.
-    next: Vec<Option<usize>>,
-    /// The number before each one in its group.
-    previous: Vec<Option<usize>>,
-    /// The first number of each group.
-    firsts: Vec<Option<usize>>,
+struct Row {
+    numbers: Vec<usize>,
+    count: usize,
 }
 
 impl Model for Grouped {
     ghost use Rattle.std.specs.Coded.{codes};
-    ghost use Rattle.std.specs.Prelude.{length};
-    ghost use Rattle.amr_tables.specs.Grouped.{Grouped, AreLinked};
+    ghost use Rattle.std.specs.Prelude.{map, nat_lt};
+    ghost use Rattle.std.specs.Vec.{vec_len, vec_capacity};
+    ghost use Rattle.amr_tables.specs.Grouped.{Grouped, IsSeating, is_seated_in, has_room};
 
     ghost Value = { Grouped };
 
     ghost coded = { Prim.hlevel codes };
 
-    ghost view = { λ g. record { groups = g.links.groups.items; count = length g.links.firsts.items } };
+    ghost view = { λ g. record {
+      homes = map (λ seat. seat.group) g.seats.items;
+      present = map (is_seated_in g.rows.items) g.seats.items;
+      rooms = map (has_room (nat_lt (vec_len g.seats) (vec_capacity g.seats))) g.rows.items;
+    } };
 
-    ghost invariant = { λ g. AreLinked g.links };
+    ghost invariant = { λ g. IsSeating g.seats.items g.rows.items };
 }
 
 impl Grouped {
     /// Builds a table without numbers and groups.
     pub fn new(alloc: Global) -> Grouped
-        ensures groups { result.groups ≡ [] }
-        ensures count { result.count ≡ 0 }
+        ensures { result ≡ record { homes = []; present = []; rooms = [] } }
     {
         Grouped {
             alloc,
-            links: Links {
-                groups: Vec::new(alloc),
-                next: Vec::new(alloc),
-                previous: Vec::new(alloc),
-                firsts: Vec::new(alloc),
-            },
+            seats: Vec::new(alloc),
+            rows: Vec::new(alloc),
         }
     }
 
-    /// Makes room for the numbers below `count`. New ones are in no group.
-    pub fn reserve_numbers(&mut self, count: usize) -> Result<(), AllocError>
-        ensures room { OnOk result (count ≤ length self.new.groups) }
-        ensures more { length self.old.groups ≤ length self.new.groups }
-        ensures same { (n : ℕ) → group_at self.new n ≡ group_at self.old n }
-        ensures groups { self.new.count ≡ self.old.count }
+    /// Makes room for so many groups, which is at most one more than there is. A new one has no
+    /// numbers.
+    pub fn reserve_groups(&mut self, count: usize) -> Result<(), AllocError>
+        requires { count ≤ length self.old.rooms + 1 }
+        ensures room { OnOk result (count ≤ length self.new.rooms) }
+        ensures more { length self.old.rooms ≤ length self.new.rooms }
+        ensures homes { self.new.homes ≡ self.old.homes }
+        ensures present { self.new.present ≡ self.old.present }
     {
-        if count <= self.links.groups.len() {
+        if count <= self.rows.len() {
             return Ok(());
         }
-        extend(&mut self.links.next, count)?;
-        extend(&mut self.links.previous, count)?;
-        extend(&mut self.links.groups, count)
+        self.rows.push(Row {
+            numbers: Vec::new(self.alloc),
+            count: 0,
+        })?;
+        Ok(())
     }
 
-    /// Makes room for the groups below `count`. New ones have no numbers.
-    pub fn reserve_groups(&mut self, count: usize) -> Result<(), AllocError>
-        ensures room { OnOk result (count ≤ self.new.count) }
-        ensures more { self.old.count ≤ self.new.count }
-        ensures same { self.new.groups ≡ self.old.groups }
+    /// Makes room for one more number in a group.
+    pub fn reserve(&mut self, group: usize) -> Result<(), AllocError>
+        requires { group < length self.old.rooms }
+        ensures room { OnOk result (is_marked self.new.rooms group ≡ true) }
+        ensures groups { length self.new.rooms ≡ length self.old.rooms }
+        ensures homes { self.new.homes ≡ self.old.homes }
+        ensures present { self.new.present ≡ self.old.present }
     {
-        extend(&mut self.links.firsts, count)
+        self.seats.reserve(1)?;
+        self.rows[group].numbers.reserve(1)
     }
 
-    /// Puts a number into a group, or into none. It takes no memory.
-    pub fn set(&mut self, number: usize, group: Option<usize>)
-        requires room { number < length self.old.groups }
-        requires group { IfSome group (λ group. group < self.old.count) }
-        ensures groups { self.new.groups ≡ slice_set self.old.groups number group }
-        ensures count { self.new.count ≡ self.old.count }
+    /// Adds the next number, which belongs to a group, but isn't in it yet. It takes no memory.
+    pub fn add(&mut self, group: usize)
+        requires { is_marked self.old.rooms group ≡ true }
+        ensures homes { self.new.homes ≡ self.old.homes ++ group ∷ [] }
+        ensures present { self.new.present ≡ self.old.present ++ false ∷ [] }
+        ensures groups { length self.new.rooms ≡ length self.old.rooms }
     {
-        self.links.leave(number);
-        if let Some(group) = group {
-            self.links.join(number, group);
+        let number = self.seats.len();
+        let row = &mut self.rows[group];
+        let position = row.numbers.len();
+        row.numbers.push_reserved(number);
+        self.seats.push_reserved(Seat { group, position });
+    }
+
+    /// Puts a number into its group, or takes it out. It takes no memory.
+    pub fn set(&mut self, number: usize, is_in: bool)
+        requires { number < length self.old.homes }
+        ensures present { (n : ℕ) → is_marked self.new.present n
+            ≡ cond (n == number) is_in (is_marked self.old.present n) }
+        ensures homes { self.new.homes ≡ self.old.homes }
+        ensures groups { length self.new.rooms ≡ length self.old.rooms }
+    {
+        let seat = self.seats[number];
+        let row = &mut self.rows[seat.group];
+        if (seat.position < row.count) == is_in {
+            return;
         }
+        // It changes places with the first that isn't in the group, or with the last that is.
+        let position = row.count - usize::from(!is_in);
+        let other = row.numbers[position];
+        row.numbers[seat.position] = other;
+        row.numbers[position] = number;
+        row.count = position + usize::from(is_in);
+        self.seats[other].position = seat.position;
+        self.seats[number].position = position;
     }
 
-    /// Returns the numbers of a group, in no particular order. Its time doesn't grow with other
-    /// groups.
-    pub fn numbers_of(&self, group: usize) -> Result<Vec<usize>, AllocError>
-        ensures { IfOk result (λ found. AreNumbersOf self.now group found.items) }
+    /// Returns the group that a number belongs to.
+    pub fn group_of(&self, number: usize) -> Option<usize>
+        ensures { result ≡ slice_get self.now.homes number }
     {
-        let mut found = Vec::new(self.alloc);
-        let mut at = self.links.first(group);
-        for _ in 0..self.links.groups.len() {
-            let Some(number) = at else {
-                return Ok(found);
-            };
-            found.push(number)?;
-            at = self.links.next[number];
-        }
-        Ok(found)
+        let seat = self.seats.get(number)?;
+        Some(seat.group)
     }
-}
 
-impl Links {
-    /// Returns the first number of a group.
-    fn first(&self, group: usize) -> Option<usize>
-        ensures { result ≡ value_at self.now.firsts.items group }
+    /// Returns the numbers that are in a group, in no particular order.
+    pub fn numbers_of(&self, group: usize) -> &[usize]
+        requires { group < length self.now.rooms }
+        ensures { AreNumbersOf self.now group result.now }
     {
-        match self.firsts.get(group) {
-            None => None,
-            Some(first) => *first,
-        }
+        let row = &self.rows[group];
+        &row.numbers.as_slice()[..row.count]
     }
-
-    /// Takes a number out of its group, if it is in one.
-    fn leave(&mut self, number: usize)
-        requires linked { AreLinked self.old }
-        requires room { number < length self.old.groups.items }
-        ensures linked { AreLinked self.new }
-        ensures groups { self.new.groups.items ≡ slice_set self.old.groups.items number None }
-        ensures count { length self.new.firsts.items ≡ length self.old.firsts.items }
-    {
-        match self.groups[number] {
-            None => {}
-            Some(group) => self.unlink(number, group),
-        }
-    }
-
-    /// Links the numbers before and after one of a group with each other.
-    fn unlink(&mut self, number: usize, group: usize)
-        requires linked { AreLinked self.old }
-        requires member { value_at self.old.groups.items number ≡ Some group }
-        ensures linked { AreLinked self.new }
-        ensures groups { self.new.groups.items ≡ slice_set self.old.groups.items number None }
-        ensures count { length self.new.firsts.items ≡ length self.old.firsts.items }
-    {
-        let before = self.previous[number];
-        let after = self.next[number];
-        self.groups[number] = None;
-        match (before, after) {
-            (None, None) => self.firsts[group] = None,
-            (None, Some(later)) => {
-                self.firsts[group] = after;
-                self.previous[later] = None;
-            }
-            (Some(earlier), None) => self.next[earlier] = None,
-            (Some(earlier), Some(later)) => {
-                self.next[earlier] = after;
-                self.previous[later] = before;
-            }
-        }
-    }
-
-    /// Puts a number that is in no group in front of the others of a group.
-    fn join(&mut self, number: usize, group: usize)
-        requires linked { AreLinked self.old }
-        requires room { number < length self.old.groups.items }
-        requires count { group < length self.old.firsts.items }
-        requires free { value_at self.old.groups.items number ≡ None }
-        ensures linked { AreLinked self.new }
-        ensures groups { self.new.groups.items
-            ≡ slice_set self.old.groups.items number (Some group) }
-        ensures count { length self.new.firsts.items ≡ length self.old.firsts.items }
-    {
-        let first = self.firsts[group];
-        self.groups[number] = Some(group);
-        self.next[number] = first;
-        self.previous[number] = None;
-        self.firsts[group] = Some(number);
-        match first {
-            None => {}
-            Some(other) => self.previous[other] = Some(number),
-        }
-    }
-}
-
-/// Makes room for a count of links, which are none.
-fn extend(links: &mut Vec<Option<usize>>, count: usize) -> Result<(), AllocError>
-    ensures room { OnOk result (count ≤ length links.new.items) }
-    ensures more { length links.old.items ≤ length links.new.items }
-    ensures same { (n : ℕ) → value_at links.new.items n ≡ value_at links.old.items n }
-    ensures at_most { length links.new.items ≤ max (length links.old.items) count }
-{
-    if count <= links.len() {
-        return Ok(());
-    }
-    links.resize(count, None)
 }

@@ -1,7 +1,7 @@
 //! Values by key. Each key has a number, and its value is at the place with that number, so that a
 //! value can be swapped without memory. The state keeps alerts, silences, members, timers and the
 //! notification log in such tables.
-ghost use Rattle.std.specs.Prelude.{◌≡◌, ℕ, [], IsTrue, Some, is_some, false, OnOk, OnErr, IfOk, map, slice_set};
+ghost use Rattle.std.specs.Prelude.{◌≡◌, ◌+◌, ℕ, [], IsTrue, Some, is_some, false, OnOk, OnErr, IfOk, map, slice_set};
 ghost use Rattle.std.specs.Map.Iter.{deref_pair};
 ghost use Rattle.std.specs.Option.{option_copied};
 ghost use Rattle.amr_labels.specs.Map as map;
@@ -153,8 +153,11 @@ impl<K: Key + Drop, V: Drop> Keyed<K, V> {
         ensures number { OnOk result (has_place K.cmp self.old key ≡ false
             → GetsNumber K.cmp self.old self.new key (next_number self.old)) }
         ensures numbering { IsNumbering K.cmp self.new }
+        ensures next { OnOk result (has_place K.cmp self.old key ≡ false
+            → next_number self.new ≡ next_number self.old + 1) }
         ensures err { OnErr result (SamePlaces K.cmp self.old self.new) }
         ensures kept { OnErr result (self.new.numbers ≡ self.old.numbers) }
+        ensures same_next { OnErr result (next_number self.new ≡ next_number self.old) }
     {
         if let Some(number) = self.numbers.get(&key) {
             return Ok(number);

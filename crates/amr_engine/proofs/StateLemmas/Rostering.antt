@@ -1,6 +1,6 @@
 -- The members of groups by number, how a change of one of them goes on, and the members of a group.
-use Rattle.std.proofs.Common.{◌≡◌, ◌≢◌, ◌≤◌, ◌<◌, ℕ, zero, suc, Bool, true, false, IsTrue, cond, ◌||◌, ◌&&◌, T, List, [], ◌∷◌, Option, Some, None, is_some, map, length, refl, sym, ap, subst, ◌∙◌, arith}
-use Rattle.std.specs.Prelude.{◌==◌, option_map, option_and_then, if◌then◌else◌, IsPermutation, slice_set}
+use Rattle.std.proofs.Common.{◌≡◌, ◌≢◌, ◌≤◌, ◌<◌, ℕ, zero, suc, Bool, true, false, IsTrue, cond, ◌||◌, ◌&&◌, T, List, [], ◌∷◌, Option, Some, None, is_some, map, length, get_or, ◌++◌, ◌+◌, refl, sym, ap, subst, ◌∙◌, arith}
+use Rattle.std.specs.Prelude.{◌==◌, slice_get, option_map, option_and_then, if◌then◌else◌, IsPermutation, slice_set}
 use Rattle.std.specs.List.{All, AllByRecursion, IsDistinct, list_any, filter, filter_map, cons_option}
 use Rattle.std.specs.List.Sorted.{IsStrictlySortedBy, IsSortedBy}
 use Rattle.std.specs.declared.cmp.Ordering.{Ordering}
@@ -15,18 +15,19 @@ use Rattle.std.proofs.lemmas.List.{length-set, get_or-set_same, get_or-set_other
 use Rattle.std.proofs.lemmas.List.Elements.{All-nil, All-cons, All-head, All-tail}
 use Rattle.std.proofs.lemmas.List.Sorted.{All-permutation, IsPermutation-map, list_any-IsPermutation}
 use Rattle.std.proofs.lemmas.Map.Keys.{IsDistinct-IsPermutation}
-use Rattle.std.proofs.lemmas.Option.{same_Some}
+use Rattle.std.proofs.lemmas.Option.{same_Some, slice_get-get_or}
 use Rattle.amr_labels.specs.Labels.{LabelSet, label_set_cmp, label_set_cmp_total, label_set_cmp-IsAntisymmetric}
 use Rattle.amr_labels.specs.Map.{Map, get, set, entries, get-set, get-entries, entries-sorted}
 use Rattle.amr_labels.proofs.Pairs.{own_values}
 use Rattle.amr_labels.proofs.Sorted.{first, second, less}
 use Rattle.amr_config.specs.Stated.Config.{Config}
 use Rattle.amr_rules.specs.declared.alert.Alert.{Alert}
-use Rattle.amr_tables.specs.Places.{value_at}
-use Rattle.amr_tables.proofs.Placing.{value_set, value_apart}
+use Rattle.amr_tables.specs.Places.{value_at, is_marked}
+use Rattle.amr_tables.proofs.Placing.{length-push}
+use Rattle.amr_tables.proofs.Present.{get_push, marked_push}
 use Rattle.amr_tables.specs.Members.{has}
 use Rattle.amr_tables.specs.Numbered.{Numbered, map_of, number_of, next_number, GetsNumber, IsNumber, IsNumbering}
-use Rattle.amr_tables.specs.Grouped.{Grouped, group_at, AreNumbersOf}
+use Rattle.amr_tables.specs.Grouped.{Grouped, IsIn, AreNumbersOf}
 use Rattle.amr_tables.proofs.Naming.{key_at_number, one_key, value_at_number, number_of_value}
 use Rattle.amr_tables.proofs.Sorting.{same_from_members}
 use Rattle.amr_tables.proofs.Counting.{strictly}
@@ -34,7 +35,7 @@ use Rattle.amr_engine.specs.declared.state.notification.GroupTimer.{GroupTimer}
 use Rattle.amr_config.specs.declared.route_labels.RouteLabels.{RouteLabels}
 use Rattle.amr_config.specs.RouteLabels.{on_route, route_labels_cmp, route_labels_cmp_total, route_labels_cmp-IsAntisymmetric}
 use Rattle.amr_engine.specs.State.State.{group_key, members_among}
-use Rattle.amr_engine.specs.State.Rostered.{home_at, member_at, IsGrouped}
+use Rattle.amr_engine.specs.State.Rostered.{member_at, IsGrouped}
 use Rattle.amr_engine.proofs.StateLemmas.Scheduling.{not_none, the_value}
 
 -- ---- truth values
@@ -101,175 +102,132 @@ module _ {V : Type 0} (t u : Numbered RouteLabels V) (k : RouteLabels) (n : ℕ)
         | false ↦ λ _ number. others key m number
       ] refl (sym (gets key) ∙ at)
 
--- a number that is in a group already is put there again
-set_again : (l : List (Option ℕ)) (n : ℕ) (v : Option ℕ) → n < length l → value_at l n ≡ v → slice_set l n v ≡ l
-set_again [] n v h e = absurd (omega (arith, h))
-set_again (x ∷ xs) zero v h e = ap (λ (y : Option ℕ). y ∷ xs) (sym e)
-set_again (x ∷ xs) (suc n) v h e = ap (λ (ys : List (Option ℕ)). x ∷ ys) (set_again xs n v (omega (arith, h)) e)
-
 -- ---- the invariant
 
-module _ (config : Config) (a : Numbered RouteLabels Alert) (gs : Numbered RouteLabels GroupTimer) (homes : List ℕ) (m : Grouped) (is : IsGrouped config a gs homes m) where
-  -- the same members, with room for more
-  pub grouped_same : (b : Numbered RouteLabels Alert) (hs : Numbered RouteLabels GroupTimer) (k : Grouped) → IsNumbering route_labels_cmp b → b.numbers ≡ a.numbers → map_of route_labels_cmp b ≡ map_of route_labels_cmp a → hs.numbers ≡ gs.numbers → ((n : ℕ) → group_at k n ≡ group_at m n) → length m.groups ≤ length k.groups → m.count ≤ k.count → IsGrouped config b hs homes k
-  grouped_same b hs k numbering numbers shows groups same longer more = record {
+module _ (config : Config) (a : Numbered RouteLabels Alert) (gs : Numbered RouteLabels GroupTimer) (m : Grouped) (is : IsGrouped config a gs m) where
+  home_within : (key : RouteLabels) (n : ℕ) → number_of route_labels_cmp a key ≡ Some n → n < length m.homes
+  home_within key n at = let less = is.numbering.within key n at in omega (arith, less, is.homes)
+
+  -- the same members, with room for more groups
+  pub grouped_same : (b : Numbered RouteLabels Alert) (hs : Numbered RouteLabels GroupTimer) (k : Grouped) → IsNumbering route_labels_cmp b → b.numbers ≡ a.numbers → next_number b ≡ next_number a → map_of route_labels_cmp b ≡ map_of route_labels_cmp a
+      → hs.numbers ≡ gs.numbers → next_number hs ≡ next_number gs → k.homes ≡ m.homes → k.present ≡ m.present → length m.rooms ≤ length k.rooms → IsGrouped config b hs k
+  grouped_same b hs k numbering numbers next shows groups group_next homes present more = record {
     numbering = numbering;
-    home = λ key n at. ap (find route_labels_cmp (group_key config key)) groups ∙ is.home key n (before key n at);
-    grouped = λ key n at. same n ∙ is.grouped key n (before key n at) ∙ ap (λ (s : Map route_labels_cmp Alert). option_map (λ _. home_at homes n) (get s key)) (sym shows);
-    home_room = λ key n at. is.home_room key n (before key n at);
-    named = λ n g at. let by = is.named n g (sym (same n) ∙ at) in (by.0, ap (find route_labels_cmp by.0) numbers ∙ by.1);
-    room = λ key n at. omega (arith, longer, is.room key n (before key n at));
-    group_room = λ group g at. omega (arith, more, is.group_room group g (ap (find route_labels_cmp group) (sym groups) ∙ at));
+    homes = ap length homes ∙ is.homes ∙ sym next;
+    home = λ key n at. ap (find route_labels_cmp (group_key config key)) groups ∙ is.home key n (before key n at) ∙ ap (λ l. slice_get l n) (sym homes);
+    present = λ key n at. ap (λ l. is_marked l n) present ∙ is.present key n (before key n at) ∙ ap (λ (s : Map route_labels_cmp Alert). is_some (get s key)) (sym shows);
+    named = λ n marked. let by = is.named n (ap (λ l. is_marked l n) (sym present) ∙ marked) in (by.0, ap (find route_labels_cmp by.0) numbers ∙ by.1);
+    groups = omega (arith, is.groups, group_next, more);
   }
     where
       before : (key : RouteLabels) (n : ℕ) → number_of route_labels_cmp b key ≡ Some n → number_of route_labels_cmp a key ≡ Some n
       before key n at = ap (find route_labels_cmp key) (sym numbers) ∙ at
 
-  -- with room for more homes
-  pub grouped_longer : (others : List ℕ) → length homes ≤ length others → ((n : ℕ) → n < length homes → home_at others n ≡ home_at homes n) → IsGrouped config a gs others m
-  grouped_longer others longer kept = record {
-    numbering = is.numbering;
-    home = λ key n at. is.home key n at ∙ ap (λ g. Some g) (own key n at);
-    grouped = λ key n at. is.grouped key n at ∙ ap (λ g. option_map (λ _. g) (get (map_of route_labels_cmp a) key)) (own key n at);
-    home_room = λ key n at. omega (arith, longer, is.home_room key n at);
-    named = is.named;
-    room = is.room;
-    group_room = is.group_room;
-  }
-    where
-      own : (key : RouteLabels) (n : ℕ) → number_of route_labels_cmp a key ≡ Some n → home_at homes n ≡ home_at others n
-      own key n at = sym (kept n (is.home_room key n at))
-
   -- a member has come, has changed, or has left
-  pub grouped_set : (b : Numbered RouteLabels Alert) (k : Grouped) (key : RouteLabels) (n : ℕ) (w : Option Alert) → IsNumbering route_labels_cmp b → number_of route_labels_cmp a key ≡ Some n → b.numbers ≡ a.numbers → map_of route_labels_cmp b ≡ set (map_of route_labels_cmp a) key w
-      → k.groups ≡ slice_set m.groups n (option_map (λ _. home_at homes n) w) → k.count ≡ m.count → IsGrouped config b gs homes k
-  grouped_set b k key n w numbering at numbers shows groups count = record {
+  pub grouped_set : (b : Numbered RouteLabels Alert) (k : Grouped) (key : RouteLabels) (n : ℕ) (w : Option Alert) → IsNumbering route_labels_cmp b → number_of route_labels_cmp a key ≡ Some n → b.numbers ≡ a.numbers → next_number b ≡ next_number a → map_of route_labels_cmp b ≡ set (map_of route_labels_cmp a) key w
+      → ((x : ℕ) → is_marked k.present x ≡ cond (x == n) (is_some w) (is_marked m.present x)) → k.homes ≡ m.homes → length k.rooms ≡ length m.rooms → IsGrouped config b gs k
+  grouped_set b k key n w numbering at numbers next shows present homes rooms = record {
     numbering = numbering;
-    home = λ other x there. is.home other x (ap (find route_labels_cmp other) (sym numbers) ∙ there);
-    grouped = λ other x there. by_key other x (ap (find route_labels_cmp other) (sym numbers) ∙ there);
-    home_room = λ other x there. is.home_room other x (ap (find route_labels_cmp other) (sym numbers) ∙ there);
-    named = λ x y there. elim (x == n) as (λ z. (x == n) ≡ z → IsNumber route_labels_cmp b x) [
-      | true ↦ λ same. let e : n ≡ x = grind (arith, nat_tests) in (key, ap (find route_labels_cmp key) numbers ∙ at ∙ ap (λ n. Some n) e)
-      | false ↦ λ other. let e : x ≢ n = grind (arith, nat_tests) in let by = is.named x y (sym (apart x e) ∙ there) in (by.0, ap (find route_labels_cmp by.0) numbers ∙ by.1)
-    ] refl;
-    room = λ other x there. omega (arith, ap length groups, length-set m.groups n (option_map (λ _. home_at homes n) w), is.room other x (ap (find route_labels_cmp other) (sym numbers) ∙ there));
-    group_room = λ group x there. omega (arith, count, is.group_room group x there);
+    homes = ap length homes ∙ is.homes ∙ sym next;
+    home = λ other x there. is.home other x (before other x there) ∙ ap (λ l. slice_get l x) (sym homes);
+    present = λ other x there. present x ∙ by_key other x (before other x there) ∙ ap is_some (sym (value other));
+    named = λ x marked. by_number_now x (x == n) refl (sym (present x) ∙ marked);
+    groups = omega (arith, is.groups, rooms);
   }
     where
+      before : (other : RouteLabels) (x : ℕ) → number_of route_labels_cmp b other ≡ Some x → number_of route_labels_cmp a other ≡ Some x
+      before other x there = ap (find route_labels_cmp other) (sym numbers) ∙ there
+
       value : (other : RouteLabels) → get (map_of route_labels_cmp b) other ≡ cond (eq_by_cmp route_labels_cmp other key) w (get (map_of route_labels_cmp a) other)
       value other = ap (λ (s : Map route_labels_cmp Alert). get s other) shows ∙ get-set route_labels_cmp_total (map_of route_labels_cmp a) key w other
 
-      apart : (x : ℕ) → x ≢ n → group_at k x ≡ group_at m x
-      apart x e = ap (λ gs. value_at gs x) groups ∙ value_apart m.groups n x (option_map (λ _. home_at homes n) w) e
+      by_number_now : (x : ℕ) (t : Bool) → (x == n) ≡ t → IsTrue (cond t (is_some w) (is_marked m.present x)) → IsNumber route_labels_cmp b x
+      by_number_now x true e marked = let same : n ≡ x = grind (arith, nat_tests, e) in (key, ap (find route_labels_cmp key) numbers ∙ at ∙ ap (λ n. Some n) same)
+      by_number_now x false e marked = let by = is.named x marked in (by.0, ap (find route_labels_cmp by.0) numbers ∙ by.1)
 
-      there_now : group_at k n ≡ option_map (λ _. home_at homes n) w
-      there_now = ap (λ gs. value_at gs n) groups ∙ value_set m.groups n (option_map (λ _. home_at homes n) w) (is.room key n at)
-
-      by_key : (other : RouteLabels) (x : ℕ) → number_of route_labels_cmp a other ≡ Some x → group_at k x ≡ option_map (λ _. home_at homes x) (get (map_of route_labels_cmp b) other)
+      by_key : (other : RouteLabels) (x : ℕ) → number_of route_labels_cmp a other ≡ Some x → cond (x == n) (is_some w) (is_marked m.present x) ≡ is_some (cond (eq_by_cmp route_labels_cmp other key) w (get (map_of route_labels_cmp a) other))
       by_key other x there =
-          elim (eq_by_cmp route_labels_cmp other key) as (λ y. eq_by_cmp route_labels_cmp other key ≡ y → group_at k x ≡ option_map (λ _. home_at homes x) (cond y w (get (map_of route_labels_cmp a) other))) [
+          elim (eq_by_cmp route_labels_cmp other key) as (λ y. eq_by_cmp route_labels_cmp other key ≡ y → cond (x == n) (is_some w) (is_marked m.present x) ≡ is_some (cond y w (get (map_of route_labels_cmp a) other))) [
             | true ↦ λ same.
                 let number : n ≡ x = same_Some n x (sym at ∙ ap (number_of route_labels_cmp a) (sym (tied_key key other same)) ∙ there) in
-                subst (λ y. group_at k y ≡ option_map (λ _. home_at homes y) w) number there_now
-            | false ↦ λ other_key. apart x (λ e. true≢false (sym (ap is_eq (tied_itself route_labels_cmp_total key)) ∙ ap (λ (r : RouteLabels). eq_by_cmp route_labels_cmp r key) (one_key route_labels_cmp_total route_labels_cmp-IsAntisymmetric a is.numbering key other n at (there ∙ ap (λ n. Some n) e)) ∙ other_key))
-                ∙ is.grouped other x there
+                ap (λ b. cond b (is_some w) (is_marked m.present x)) (let here : (x == n) ≡ true = grind (arith, nat_tests, number) in here)
+            | false ↦ λ other_key.
+                ap (λ b. cond b (is_some w) (is_marked m.present x)) (apart (x == n) refl (λ e. true≢false (sym (ap is_eq (tied_itself route_labels_cmp_total key)) ∙ ap (λ (r : RouteLabels). eq_by_cmp route_labels_cmp r key) (one_key route_labels_cmp_total route_labels_cmp-IsAntisymmetric a is.numbering key other n at (there ∙ ap (λ n. Some n) e)) ∙ other_key)))
+                ∙ is.present other x there
           ] refl
-          ∙ ap (option_map (λ _. home_at homes x)) (sym (value other))
+        where
+          apart : (t : Bool) → (x == n) ≡ t → (x ≡ n → ⊥) → t ≡ false
+          apart true e never = absurd (never (grind (arith, nat_tests, e)))
+          apart false e never = refl
 
-  -- a member has changed, or is still none
-  pub grouped_stays : (b : Numbered RouteLabels Alert) (key : RouteLabels) (n : ℕ) (w : Option Alert) → IsNumbering route_labels_cmp b → number_of route_labels_cmp a key ≡ Some n → b.numbers ≡ a.numbers → map_of route_labels_cmp b ≡ set (map_of route_labels_cmp a) key w
-      → is_some (get (map_of route_labels_cmp a) key) ≡ is_some w → IsGrouped config b gs homes m
-  grouped_stays b key n w numbering at numbers shows stays =
-      grouped_set b m key n w numbering at numbers shows (sym (set_again m.groups n (option_map (λ _. home_at homes n) w) (is.room key n at) (is.grouped key n at ∙ same (get (map_of route_labels_cmp a) key) w stays))) refl
-    where
-      same : (o p : Option Alert) → is_some o ≡ is_some p → option_map (λ _. home_at homes n) o ≡ option_map (λ _. home_at homes n) p
-      same None None e = refl
-      same None (Some y) e = absurd (true≢false (sym e))
-      same (Some x) None e = absurd (true≢false e)
-      same (Some x) (Some y) e = refl
-
-  -- a place for a member is made, with its home
-  pub grouped_placed : (b : Numbered RouteLabels Alert) (others : List ℕ) (k : RouteLabels) (g : ℕ) → IsNumbering route_labels_cmp b → number_of route_labels_cmp a k ≡ None → GetsNumber route_labels_cmp a b k (next_number a) → map_of route_labels_cmp b ≡ map_of route_labels_cmp a → next_number a < length m.groups
-      → number_of route_labels_cmp gs (group_key config k) ≡ Some g → others ≡ slice_set homes (next_number a) g → next_number a < length homes → IsGrouped config b gs others m
-  grouped_placed b others k g numbering new gets shows room in_g homes_are home_room = record {
+  -- a place for a member is made, of a group
+  pub grouped_placed : (b : Numbered RouteLabels Alert) (k : Grouped) (key : RouteLabels) (g : ℕ) → IsNumbering route_labels_cmp b → number_of route_labels_cmp a key ≡ None → GetsNumber route_labels_cmp a b key (next_number a) → next_number b ≡ next_number a + 1 → map_of route_labels_cmp b ≡ map_of route_labels_cmp a
+      → number_of route_labels_cmp gs (group_key config key) ≡ Some g → k.homes ≡ m.homes ++ g ∷ [] → k.present ≡ m.present ++ false ∷ [] → length m.rooms ≤ length k.rooms → IsGrouped config b gs k
+  grouped_placed b k key g numbering new gets next shows in_g homes present rooms = record {
     numbering = numbering;
-    home = by_number a b k (next_number a) gets (λ key n. number_of route_labels_cmp gs (group_key config key) ≡ Some (home_at others n))
-        (in_g ∙ ap (λ g. Some g) (sym own)) (λ key n at. is.home key n at ∙ ap (λ g. Some g) (sym (apart key n at)));
-    grouped = λ key n at. by_number a b k (next_number a) gets (λ key n. group_at m n ≡ option_map (λ _. home_at others n) (get (map_of route_labels_cmp a) key))
-        (nobody ∙ ap (option_map (λ _. home_at others (next_number a))) (sym no_value))
-        (λ key n at. is.grouped key n at ∙ ap (λ g. option_map (λ _. g) (get (map_of route_labels_cmp a) key)) (sym (apart key n at))) key n at
-        ∙ ap (λ (s : Map route_labels_cmp Alert). option_map (λ _. home_at others n) (get s key)) (sym shows);
-    home_room = by_number a b k (next_number a) gets (λ key n. n < length others) (omega (arith, home_room, length_now)) (λ key n at. omega (arith, is.home_room key n at, length_now));
-    named = λ n g at. let by = is.named n g at in (by.0, kept_number a b k (next_number a) new gets by.0 n by.1);
-    room = by_number a b k (next_number a) gets (λ key n. n < length m.groups) room is.room;
-    group_room = is.group_room;
+    homes = ap length homes ∙ length-push m.homes g ∙ omega (arith, is.homes, next);
+    home = by_number a b key (next_number a) gets (λ other n. number_of route_labels_cmp gs (group_key config other) ≡ slice_get k.homes n)
+        (in_g ∙ sym (home_now (next_number a) ∙ ap (λ b. cond b (Some g) (slice_get m.homes (next_number a))) (let last = is.homes in let here : (next_number a == length m.homes) ≡ true = grind (arith, nat_tests, last) in here)))
+        (λ other n at. is.home other n at ∙ sym (home_now n ∙ ap (λ b. cond b (Some g) (slice_get m.homes n)) (let less = home_within other n at in let here : (n == length m.homes) ≡ false = grind (arith, nat_tests, less) in here)));
+    present = λ other n at. present_now n ∙ by_number a b key (next_number a) gets (λ other n. is_marked m.present n ≡ is_some (get (map_of route_labels_cmp a) other)) (nobody ∙ sym no_value) is.present other n at
+        ∙ ap (λ (s : Map route_labels_cmp Alert). is_some (get s other)) (sym shows);
+    named = λ n marked. let by = is.named n (sym (present_now n) ∙ marked) in (by.0, kept_number a b key (next_number a) new gets by.0 n by.1);
+    groups = omega (arith, is.groups, rooms);
   }
     where
-      length_now : length others ≡ length homes
-      length_now = ap length homes_are ∙ length-set homes (next_number a) g
+      home_now : (n : ℕ) → slice_get k.homes n ≡ cond (n == length m.homes) (Some g) (slice_get m.homes n)
+      home_now n = ap (λ l. slice_get l n) homes ∙ get_push m.homes g n
 
-      own : home_at others (next_number a) ≡ g
-      own = ap (λ l. home_at l (next_number a)) homes_are ∙ get_or-set_same homes (next_number a) g 0 home_room
+      present_now : (n : ℕ) → is_marked k.present n ≡ is_marked m.present n
+      present_now n = ap (λ l. is_marked l n) present ∙ marked_push m.present n
 
-      apart : (key : RouteLabels) (n : ℕ) → number_of route_labels_cmp a key ≡ Some n → home_at others n ≡ home_at homes n
-      apart key n at =
-          let less = is.numbering.within key n at in
-          ap (λ l. home_at l n) homes_are ∙ get_or-set_other homes (next_number a) n g 0 (λ e. omega (arith, less, e))
+      none_of : (b : Bool) → (IsTrue b → ⊥) → b ≡ false
+      none_of false h = refl
+      none_of true h = absurd (h refl)
 
-      none_of : {A : Type 0} (x : Option A) → (IsTrue (is_some x) → ⊥) → x ≡ None
-      none_of None h = refl
-      none_of (Some x) h = absurd (h refl)
+      no_value : is_some (get (map_of route_labels_cmp a) key) ≡ false
+      no_value = none_of _ (λ h. let by = the_number a is.numbering key h in not_none by.0 ⊥ (sym by.1 ∙ new))
 
-      no_value : get (map_of route_labels_cmp a) k ≡ None
-      no_value = none_of (get (map_of route_labels_cmp a) k) (λ h. let by = the_number a is.numbering k h in not_none by.0 ⊥ (sym by.1 ∙ new))
-
-      nobody : group_at m (next_number a) ≡ None
-      nobody = none_of (group_at m (next_number a)) (λ h.
-          let g = the_value (group_at m (next_number a)) h in
-          let by = is.named (next_number a) g.0 g.1 in
-          let less = is.numbering.within by.0 (next_number a) by.1 in
-          omega (arith, less))
+      nobody : is_marked m.present (next_number a) ≡ false
+      nobody = none_of _ (λ h. let by = is.named (next_number a) h in let less = is.numbering.within by.0 (next_number a) by.1 in omega (arith, less))
 
   -- a group gets a number
-  pub group_placed : (hs : Numbered RouteLabels GroupTimer) (k : RouteLabels) → number_of route_labels_cmp gs k ≡ None → GetsNumber route_labels_cmp gs hs k (next_number gs) → next_number gs < m.count → IsGrouped config a hs homes m
-  group_placed hs k new gets room = record {
+  pub group_placed : (hs : Numbered RouteLabels GroupTimer) (key : RouteLabels) → number_of route_labels_cmp gs key ≡ None → GetsNumber route_labels_cmp gs hs key (next_number gs) → next_number hs ≤ length m.rooms → IsGrouped config a hs m
+  group_placed hs key new gets room = record {
     numbering = is.numbering;
-    home = λ key n at. kept_number gs hs k (next_number gs) new gets (group_key config key) (home_at homes n) (is.home key n at);
-    grouped = is.grouped;
-    home_room = is.home_room;
+    homes = is.homes;
+    home = λ k n at.
+        let own = slice_get-get_or m.homes n 0 (home_within k n at) in
+        kept_number gs hs key (next_number gs) new gets (group_key config k) (get_or m.homes n 0) (is.home k n at ∙ own) ∙ sym own;
+    present = is.present;
     named = is.named;
-    room = is.room;
-    group_room = by_number gs hs k (next_number gs) gets (λ group g. g < m.count) room is.group_room;
+    groups = room;
   }
 
-pub grouped_first : (config : Config) (a : Numbered RouteLabels Alert) (gs : Numbered RouteLabels GroupTimer) (homes : List ℕ) (m : Grouped) → IsNumbering route_labels_cmp a → a.numbers ≡ [] → gs.numbers ≡ [] → m.groups ≡ [] → IsGrouped config a gs homes m
-grouped_first config a gs homes m numbering none no_groups nothing = record {
+pub grouped_first : (config : Config) (a : Numbered RouteLabels Alert) (gs : Numbered RouteLabels GroupTimer) (m : Grouped) → IsNumbering route_labels_cmp a → a.numbers ≡ [] → a.cells ≡ [] → gs.cells ≡ [] → m ≡ record { homes = []; present = []; rooms = [] } → IsGrouped config a gs m
+grouped_first config a gs m numbering none no_cells no_groups nothing = record {
   numbering = numbering;
+  homes = ap (λ (m : Grouped). length m.homes) nothing ∙ ap length (sym no_cells);
   home = λ key n at. not_none n _ (sym at ∙ ap (find route_labels_cmp key) none);
-  grouped = λ key n at. not_none n _ (sym at ∙ ap (find route_labels_cmp key) none);
-  home_room = λ key n at. not_none n _ (sym at ∙ ap (find route_labels_cmp key) none);
-  named = λ n g at. not_none g _ (sym at ∙ ap (λ gs. value_at gs n) nothing);
-  room = λ key n at. not_none n _ (sym at ∙ ap (find route_labels_cmp key) none);
-  group_room = λ group g at. not_none g _ (sym at ∙ ap (find route_labels_cmp group) no_groups);
+  present = λ key n at. not_none n _ (sym at ∙ ap (find route_labels_cmp key) none);
+  named = λ n marked. absurd (true≢false (sym marked ∙ ap (λ (m : Grouped). is_marked m.present n) nothing));
+  groups = omega (arith, ap length no_groups);
 }
 
 -- ---- the number of a member of the group
 
-module _ (config : Config) (a : Numbered RouteLabels Alert) (gs : Numbered RouteLabels GroupTimer) (homes : List ℕ) (m : Grouped) (is : IsGrouped config a gs homes m) (group : RouteLabels) (numbering : IsNumbering route_labels_cmp gs) (g : ℕ) (at : number_of route_labels_cmp gs group ≡ Some g) where
-  grouped_at : (key : RouteLabels) (n : ℕ) (o : Option Alert) → number_of route_labels_cmp gs (group_key config key) ≡ Some (home_at homes n) → option_map (λ _. home_at homes n) o ≡ Some g → IsTrue (is_some o) × (group_key config key ≡ group)
-  grouped_at key n None own e = cc
-  grouped_at key n (Some x) own e = (refl, one_key route_labels_cmp_total route_labels_cmp-IsAntisymmetric gs numbering (group_key config key) group g (own ∙ e) at)
-
+module _ (config : Config) (a : Numbered RouteLabels Alert) (gs : Numbered RouteLabels GroupTimer) (m : Grouped) (is : IsGrouped config a gs m) (group : RouteLabels) (numbering : IsNumbering route_labels_cmp gs) (g : ℕ) (at : number_of route_labels_cmp gs group ≡ Some g) where
   -- who has a number in the group is a member of it
-  pub member_of : (n : ℕ) → group_at m n ≡ Some g → (key : RouteLabels) × (number_of route_labels_cmp a key ≡ Some n) × (IsTrue (is_some (get (map_of route_labels_cmp a) key)) × (group_key config key ≡ group))
-  member_of n there = let by = is.named n g there in (by.0, by.1, grouped_at by.0 n (get (map_of route_labels_cmp a) by.0) (is.home by.0 n by.1) (sym (is.grouped by.0 n by.1) ∙ there))
+  pub member_of : (n : ℕ) → IsIn m n g → (key : RouteLabels) × (number_of route_labels_cmp a key ≡ Some n) × (IsTrue (is_some (get (map_of route_labels_cmp a) key)) × (group_key config key ≡ group))
+  member_of n there =
+      let by = is.named n there.1 in
+      (by.0, by.1, (sym (is.present by.0 n by.1) ∙ there.1, one_key route_labels_cmp_total route_labels_cmp-IsAntisymmetric gs numbering (group_key config by.0) group g (is.home by.0 n by.1 ∙ there.0) at))
 
   -- a member of the group has a number in it
-  pub number_in : (key : RouteLabels) → IsTrue (is_some (get (map_of route_labels_cmp a) key)) → group_key config key ≡ group → (n : ℕ) × (number_of route_labels_cmp a key ≡ Some n) × (group_at m n ≡ Some g)
+  pub number_in : (key : RouteLabels) → IsTrue (is_some (get (map_of route_labels_cmp a) key)) → group_key config key ≡ group → (n : ℕ) × (number_of route_labels_cmp a key ≡ Some n) × IsIn m n g
   number_in key h e =
       let by = the_number a is.numbering key h in
-      let value = the_value (get (map_of route_labels_cmp a) key) h in
-      (by.0, by.1, is.grouped key by.0 by.1 ∙ ap (option_map (λ _. home_at homes by.0)) value.1 ∙ sym (is.home key by.0 by.1) ∙ ap (number_of route_labels_cmp gs) e ∙ at)
+      (by.0, by.1, (sym (is.home key by.0 by.1) ∙ ap (number_of route_labels_cmp gs) e ∙ at, is.present key by.0 by.1 ∙ h))
 
 -- ---- the members of a group, from the members of all
 
@@ -371,7 +329,7 @@ module _ (config : Config) (group : RouteLabels) where
 
 -- ---- the members by their numbers
 
-module _ (config : Config) (a : Numbered RouteLabels Alert) (gs : Numbered RouteLabels GroupTimer) (homes : List ℕ) (m : Grouped) (is : IsGrouped config a gs homes m) (group : RouteLabels) where
+module _ (config : Config) (a : Numbered RouteLabels Alert) (gs : Numbered RouteLabels GroupTimer) (m : Grouped) (is : IsGrouped config a gs m) (group : RouteLabels) where
   -- no member is in a group without a number
   pub no_members : number_of route_labels_cmp gs group ≡ None → [] ≡ members_among config (map_of route_labels_cmp a) group
   unfolding IsStrictlySortedBy
@@ -384,13 +342,14 @@ module _ (config : Config) (a : Numbered RouteLabels Alert) (gs : Numbered Route
       nobody : (key : RouteLabels) (x y : Bool) → is_in config group key ≡ x → is_some (get (map_of route_labels_cmp a) key) ≡ y → false ≡ (x && y)
       nobody key true true e h =
           let by = the_number a is.numbering key h in
-          not_none (home_at homes by.0) _ (sym (is.home key by.0 by.1) ∙ ap (number_of route_labels_cmp gs) (tied_key group (group_key config key) e) ∙ none)
+          let own = slice_get-get_or m.homes by.0 0 (home_within config a gs m is key by.0 by.1) in
+          not_none _ _ (sym own ∙ sym (is.home key by.0 by.1) ∙ ap (number_of route_labels_cmp gs) (tied_key group (group_key config key) e) ∙ none)
       nobody key true false e h = refl
       nobody key false y e h = refl
 
   module _ (numbering : IsNumbering route_labels_cmp gs) (g : ℕ) (at : number_of route_labels_cmp gs group ≡ Some g) where
-    abbrev IsIn : ℕ → Type 0
-    IsIn n = group_at m n ≡ Some g
+    abbrev IsMember : ℕ → Type 0
+    IsMember n = IsIn m n g
 
     -- the member of the group at a number
     record MemberAt (n : ℕ) : Type 0 where
@@ -400,9 +359,9 @@ module _ (config : Config) (a : Numbered RouteLabels Alert) (gs : Numbered Route
       value : get (map_of route_labels_cmp a) (on_route group.route labels) ≡ Some alert
       grouped : group_key config (on_route group.route labels) ≡ group
 
-    the_member : (n : ℕ) → IsIn n → MemberAt n
+    the_member : (n : ℕ) → IsMember n → MemberAt n
     the_member n there =
-        let by = member_of config a gs homes m is group numbering g at n there in
+        let by = member_of config a gs m is group numbering g at n there in
         let value = the_value (get (map_of route_labels_cmp a) by.0) by.2.0 in
         let route : by.0.route ≡ group.route = ap (λ (r : RouteLabels). r.route) by.2.1 in
         let same : on_route group.route by.0.labels ≡ by.0 = λ i. on_route (sym route i) by.0.labels in
@@ -414,28 +373,28 @@ module _ (config : Config) (a : Numbered RouteLabels Alert) (gs : Numbered Route
           grouped = ap (group_key config) same ∙ by.2.1;
         }
 
-    abbrev pair : (n : ℕ) → IsIn n → LabelSet × Alert
+    abbrev pair : (n : ℕ) → IsMember n → LabelSet × Alert
     pair n there = ((the_member n there).labels, (the_member n there).alert)
 
-    found_at : (n : ℕ) (there : IsIn n) → member_at a n ≡ Some (pair n there)
+    found_at : (n : ℕ) (there : IsMember n) → member_at a n ≡ Some (pair n there)
     found_at n there =
         let it = the_member n there in
         let key = on_route group.route it.labels in
         ap (option_and_then (λ (k : RouteLabels). option_map (λ alert. (k.labels, alert)) (value_at a.cells n))) (key_at_number route_labels_cmp_total route_labels_cmp-IsAntisymmetric a is.numbering key n it.number)
         ∙ ap (option_map (λ alert. (it.labels, alert))) (sym (value_at_number route_labels_cmp_total route_labels_cmp-IsAntisymmetric a is.numbering key n it.number) ∙ it.value)
 
-    abbrev members_at : (ns : List ℕ) → AllByRecursion IsIn ns → List (LabelSet × Alert)
+    abbrev members_at : (ns : List ℕ) → AllByRecursion IsMember ns → List (LabelSet × Alert)
     members_at [] all = []
     members_at (n ∷ ns) all = pair n all.0 ∷ members_at ns all.1
 
-    found_are : (ns : List ℕ) (all : AllByRecursion IsIn ns) → filter_map (member_at a) ns ≡ members_at ns all
+    found_are : (ns : List ℕ) (all : AllByRecursion IsMember ns) → filter_map (member_at a) ns ≡ members_at ns all
     found_are [] all = refl
     found_are (n ∷ ns) all = ap (λ o. cons_option o (filter_map (member_at a) ns)) (found_at n all.0) ∙ ap (λ l. pair n all.0 ∷ l) (found_are ns all.1)
 
     abbrev HasAlert : LabelSet × Alert → Type 0
     HasAlert p = with_alert (map_of route_labels_cmp a) group.route p.0 ≡ Some p
 
-    have_alerts : (ns : List ℕ) (all : AllByRecursion IsIn ns) → All HasAlert (members_at ns all)
+    have_alerts : (ns : List ℕ) (all : AllByRecursion IsMember ns) → All HasAlert (members_at ns all)
     have_alerts [] all = All-nil HasAlert
     have_alerts (n ∷ ns) all =
         let it = the_member n all.0 in
@@ -448,7 +407,7 @@ module _ (config : Config) (a : Numbered RouteLabels Alert) (gs : Numbered Route
         ∙ ap (λ l. p ∷ l) (from_alerts ps (All-tail HasAlert p ps all))
 
     -- the label set of a number among these is theirs
-    has_labels : (ns : List ℕ) (all : AllByRecursion IsIn ns) (l : LabelSet) (n : ℕ) → number_of route_labels_cmp a (on_route group.route l) ≡ Some n → IsTrue (list_any (λ x. n == x) ns) → IsTrue (has label_set_cmp (labels_of_members (members_at ns all)) l)
+    has_labels : (ns : List ℕ) (all : AllByRecursion IsMember ns) (l : LabelSet) (n : ℕ) → number_of route_labels_cmp a (on_route group.route l) ≡ Some n → IsTrue (list_any (λ x. n == x) ns) → IsTrue (has label_set_cmp (labels_of_members (members_at ns all)) l)
     has_labels [] all l n there h = absurd (true≢false (sym h))
     has_labels (x ∷ ns) all l n there h =
         elim (n == x) as (λ b. (n == x) ≡ b → IsTrue (b || list_any (λ x. n == x) ns) → IsTrue (has label_set_cmp (labels_of_members (members_at (x ∷ ns) all)) l)) [
@@ -461,7 +420,7 @@ module _ (config : Config) (a : Numbered RouteLabels Alert) (gs : Numbered Route
         ] refl h
 
     -- a label set of theirs has a number among these
-    has_number : (ns : List ℕ) (all : AllByRecursion IsIn ns) (l : LabelSet) → IsTrue (has label_set_cmp (labels_of_members (members_at ns all)) l) → IsTrue (is_in config group (on_route group.route l) && is_some (get (map_of route_labels_cmp a) (on_route group.route l)))
+    has_number : (ns : List ℕ) (all : AllByRecursion IsMember ns) (l : LabelSet) → IsTrue (has label_set_cmp (labels_of_members (members_at ns all)) l) → IsTrue (is_in config group (on_route group.route l) && is_some (get (map_of route_labels_cmp a) (on_route group.route l)))
     has_number [] all l h = absurd (true≢false (sym h))
     has_number (x ∷ ns) all l h =
         let it = the_member x all.0 in
@@ -473,7 +432,7 @@ module _ (config : Config) (a : Numbered RouteLabels Alert) (gs : Numbered Route
           | false ↦ λ _ rest. has_number ns all.1 l rest
         ] refl h
 
-    apart_from : (x : ℕ) (there : IsIn x) (ns : List ℕ) (all : AllByRecursion IsIn ns) → AllByRecursion (λ y. (x == y) ≡ false) ns → AllByRecursion (λ y. eq_by_cmp label_set_cmp (the_member x there).labels y ≡ false) (labels_of_members (members_at ns all))
+    apart_from : (x : ℕ) (there : IsMember x) (ns : List ℕ) (all : AllByRecursion IsMember ns) → AllByRecursion (λ y. (x == y) ≡ false) ns → AllByRecursion (λ y. eq_by_cmp label_set_cmp (the_member x there).labels y ≡ false) (labels_of_members (members_at ns all))
     apart_from x there [] all differ = tt
     apart_from x there (y ∷ ns) all differ =
         let own = the_member x there in
@@ -490,7 +449,7 @@ module _ (config : Config) (a : Numbered RouteLabels Alert) (gs : Numbered Route
         )
 
     -- different numbers have different label sets
-    labels_apart : (ns : List ℕ) (all : AllByRecursion IsIn ns) → IsDistinct (λ (a b : ℕ). a == b) ns → IsDistinct (eq_by_cmp label_set_cmp) (labels_of_members (members_at ns all))
+    labels_apart : (ns : List ℕ) (all : AllByRecursion IsMember ns) → IsDistinct (λ (a b : ℕ). a == b) ns → IsDistinct (eq_by_cmp label_set_cmp) (labels_of_members (members_at ns all))
     unfolding IsDistinct
     labels_apart [] all d = tt
     labels_apart (n ∷ ns) all d = (apart_from n all.0 ns all.1 d.0, labels_apart ns all.1 d.1)
@@ -503,8 +462,8 @@ module _ (config : Config) (a : Numbered RouteLabels Alert) (gs : Numbered Route
         ∙ ap (filter_map (with_alert (map_of route_labels_cmp a) group.route)) (listed config group (map_of route_labels_cmp a) (labels_of_members members) in_order has_listed)
         ∙ members_are config group (map_of route_labels_cmp a)
       where
-        all : AllByRecursion IsIn numbers
-        all = all_among IsIn numbers those.members
+        all : AllByRecursion IsMember numbers
+        all = all_among IsMember numbers those.members
 
         moved_at : IsPermutation (members_at numbers all) members
         moved_at = subst (λ l. IsPermutation l members) (found_is ∙ found_are numbers all) moved
@@ -529,5 +488,5 @@ module _ (config : Config) (a : Numbered RouteLabels Alert) (gs : Numbered Route
             sym (list_any-IsPermutation (eq_by_cmp label_set_cmp l) (labels_of_members (members_at numbers all)) (labels_of_members members) labels_moved)
             ∙ alike (has label_set_cmp (labels_of_members (members_at numbers all)) l) (is_in config group key && is_some (get (map_of route_labels_cmp a) key)) (has_number numbers all l)
             (λ h.
-            let by = number_in config a gs homes m is group numbering g at key (other_of (is_in config group key) (is_some (get (map_of route_labels_cmp a) key)) h) (tied_key group (group_key config key) (one_of (is_in config group key) (is_some (get (map_of route_labels_cmp a) key)) h)) in
+            let by = number_in config a gs m is group numbering g at key (other_of (is_in config group key) (is_some (get (map_of route_labels_cmp a) key)) h) (tied_key group (group_key config key) (one_of (is_in config group key) (is_some (get (map_of route_labels_cmp a) key)) h)) in
             has_labels numbers all l by.0 by.1 (those.all by.0 by.2))

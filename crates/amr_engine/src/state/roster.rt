@@ -1,7 +1,7 @@
 //! The configuration in force with the groups: their timers and their members. `Store` changes it.
 //! The group of a member depends on the configuration, so both are kept together. This is all that a
 //! change of the configuration drops.
-ghost use Rattle.std.specs.Prelude.{◌≡◌, ◌<◌, ◌≤◌, ◌++◌, [], ℕ, Some, None, length, option_map, OnOk, IfOk};
+ghost use Rattle.std.specs.Prelude.{◌≡◌, ◌++◌, [], Some, None, option_map, OnOk, IfOk};
 ghost use Rattle.amr_labels.specs.Labels.{label_set_cmp};
 ghost use Rattle.amr_labels.specs.Map as map;
 ghost use Rattle.amr_config.specs.Groups.{groups_of};
@@ -13,7 +13,7 @@ ghost use Rattle.amr_engine.specs.State.State.{group_key, members_among};
 ghost use Rattle.amr_engine.specs.State.Dues.{dues_of};
 ghost use Rattle.amr_engine.specs.declared.state.due.Kind.TheVariants.{GroupRemoval, GroupFlush};
 ghost use Rattle.amr_engine.specs.State.Timed.{IsFirstOfKind, due_of};
-ghost use Rattle.amr_engine.specs.State.Rostered.{home_at, member_at};
+ghost use Rattle.amr_engine.specs.State.Rostered.{member_at};
 
 use crate::state::due::Kind;
 use crate::state::group_timers::{GroupTimers, group_moment};
@@ -40,9 +40,7 @@ pub(crate) struct Roster {
     config: Router,
     placements: Keyed<RouteLabels, Shared<Alert>>,
     timers: Keyed<RouteLabels, GroupTimer>,
-    /// The group that each place of a member belongs to, by their numbers.
-    homes: Vec<usize>,
-    /// Those that are members now, by the numbers of their groups.
+    /// The group that each place of a member belongs to, and the members that it has now.
     members: Grouped,
     /// When each group without members is removed, by their numbers.
     removals: Earliest,
@@ -62,7 +60,7 @@ impl Model for Roster {
 
     ghost view = { λ r. record { config = r.config; placements = r.placements; timers = r.timers } };
 
-    ghost invariant = { λ r. IsGrouped r.config r.placements r.timers r.homes.items r.members
+    ghost invariant = { λ r. IsGrouped r.config r.placements r.timers r.members
         × AreTimed r.timers r.removals r.flushes };
 }
 
@@ -80,7 +78,6 @@ impl Roster {
             config: Router::new(alloc, config),
             placements: Keyed::new(alloc),
             timers: Keyed::new(alloc),
-            homes: Vec::new(alloc),
             members: Grouped::new(alloc),
             removals: Earliest::new(alloc),
             flushes: Earliest::new(alloc),
@@ -162,9 +159,9 @@ impl Roster {
         let Some(number) = self.timers.number_of(group) else {
             return Ok(Vec::new(self.alloc));
         };
-        let numbers = self.members.numbers_of(number)?;
+        let numbers = self.members.numbers_of(number);
         let mut found = Vec::with_capacity(self.alloc, numbers.len())?;
-        for &member in numbers.as_slice() {
+        for &member in numbers {
             push_member(&mut found, &self.placements, member)?;
         }
         found.sort_by(
@@ -244,7 +241,7 @@ impl Roster {
 
     /// Swaps the alert of a member of its group, or `None` if it is no member, with another, given
     /// the number of its place, and marks the place as entered. Returns whether the place was marked
-    /// before. A member that stays in its group keeps its links there. It takes no memory.
+    /// before. It takes no memory.
     pub(crate) fn swap_member(&mut self, number: usize, alert: &mut Option<Shared<Alert>>) -> bool
         requires { IsNumber route_labels_cmp self.old.placements number }
         ensures former { IsValueOf route_labels_cmp self.old.placements number alert.new }
@@ -258,11 +255,7 @@ impl Roster {
         ensures timers { self.new.timers ≡ self.old.timers }
         ensures config { self.new.config ≡ self.old.config }
     {
-        if self.placements.at(number).is_some() == alert.is_some() {
-            return self.placements.swap_at(number, alert);
-        }
-        let group = home_of_member(&self.homes, number, alert);
-        self.members.set(number, group);
+        self.members.set(number, alert.is_some());
         self.placements.swap_at(number, alert)
     }
 
@@ -274,10 +267,8 @@ impl Roster {
             → result ≡ map.get (map_of route_labels_cmp self.now.timers)
             (group_key self.now.config member) }
     {
-        match self.homes.get(number) {
-            None => None,
-            Some(home) => self.timers.at(*home).copied(),
-        }
+        let home = self.members.group_of(number)?;
+        self.timers.at(home).copied()
     }
 
     /// Swaps it with another, which takes over what doesn't depend on the configuration, such as what
@@ -376,37 +367,11 @@ impl Roster {
         ensures config { self.new.config ≡ self.old.config }
     {
         let key = member.clone()?;
-        let count = count_with_next(&self.placements)?;
-        self.members.reserve_numbers(count)?;
-        reserve_homes(&mut self.homes, count)?;
+        self.members.reserve(home)?;
         let number = self.placements.make_place(key)?;
-        self.homes[number] = home;
+        self.members.add(home);
         Ok(number)
     }
-}
-
-/// Returns the group that the place with a number belongs to, if there is an alert to be a member.
-fn home_of_member(homes: &Vec<usize>, number: usize, alert: &Option<Shared<Alert>>) -> Option<usize>
-    requires { number < length homes.now.items }
-    ensures { result ≡ option_map (λ _. home_at homes.now.items number) alert.now }
-{
-    match alert {
-        None => None,
-        Some(_) => Some(homes[number]),
-    }
-}
-
-/// Makes room for the homes of the numbers below `count`.
-fn reserve_homes(homes: &mut Vec<usize>, count: usize) -> Result<(), AllocError>
-    ensures room { OnOk result (count ≤ length homes.new.items) }
-    ensures more { length homes.old.items ≤ length homes.new.items }
-    ensures same { (n : ℕ) → n < length homes.old.items
-        → home_at homes.new.items n ≡ home_at homes.old.items n }
-{
-    if count <= homes.len() {
-        return Ok(());
-    }
-    homes.resize(count, 0)
 }
 
 /// Appends a copy of the labels and the alert of the member at a number, if there is one.

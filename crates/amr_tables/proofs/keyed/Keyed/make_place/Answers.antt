@@ -6,7 +6,8 @@ use Rattle.std.specs.Ordering.{eq_by_cmp}
 use Rattle.std.specs.FinMap.{find, put}
 use Rattle.std.specs.FinMap.Entries.{find-put}
 use Rattle.amr_tables.specs.Numbered.{Numbered, map_of, has_place, is_entered, number_of}
-use Rattle.amr_tables.proofs.Placing.{length-push}
+use Rattle.amr_tables.specs.Places.{Places, value_at}
+use Rattle.amr_tables.proofs.Placing.{length-push, value_push}
 use Rattle.amr_tables.proofs.Numbering.{added_table, length-added}
 use Rattle.amr_tables.proofs.keyed.Keyed.make_place.Goals as goal
 
@@ -89,3 +90,14 @@ returns-clause-number g c = λ none other.
 
 pub insert-requires-clause-absent : goal.insert-requires-clause-absent
 insert-requires-clause-absent g c = ap (find g.K.Ord.cmp c.args.key) c.reserve.ensures.list ∙ sym c.in_default.ensures
+
+pub returns-in-Some-clause-next : goal.returns-in-Some-clause-next
+unfolding has_place
+returns-in-Some-clause-next g c = λ none.
+    let some = ap (λ v. has_place g.K.Ord.cmp v c.args.key) (sym c.self.view_is) ∙ ap is_some (sym c.get.ensures ∙ c.in-Some.is) in
+    absurd (true≢false (sym some ∙ none))
+
+pub returns-clause-values : goal.returns-clause-values
+returns-clause-values g c = λ n.
+    ap (λ (p : Places g.row.V.Denot). value_at p.values n) c.in_ok-add_place.ensures.ok ∙ value_push c.self.inside.cells.values n
+    ∙ ap (λ (t : Numbered g.row.K.Denot g.row.V.Denot). value_at t.cells n) c.self.view_is

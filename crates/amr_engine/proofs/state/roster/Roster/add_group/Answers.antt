@@ -9,11 +9,13 @@ use Rattle.amr_engine.proofs.StateLemmas.Rostering.{grouped_same, group_placed}
 use Rattle.amr_engine.proofs.StateLemmas.Scheduling.{scheduled_same, scheduled_roomier, scheduled_placed, unplaced}
 use Rattle.amr_engine.proofs.state.roster.Roster.add_group.Goals as goal
 
+pub reserve_groups-requires : goal.reserve_groups-requires
+reserve_groups-requires c = omega (arith, c.in_ok-count.ensures.count, c.self.invariant.0.groups)
+
 pub invariant_of-self : goal.invariant_of-self
 invariant_of-self c =
     let r = c.self.inside in (
-      grouped_same r.config r.placements r.timers r.homes.items r.members c.self.invariant.0 r.placements r.timers c.reserve_groups.new.self c.self.invariant.0.numbering refl refl refl (λ n. ap (λ gs. value_at gs n) c.reserve_groups.ensures.same)
-          (omega (arith, ap length c.reserve_groups.ensures.same)) c.reserve_groups.ensures.more,
+      grouped_same r.config r.placements r.timers r.members c.self.invariant.0 r.placements r.timers c.reserve_groups.new.self c.self.invariant.0.numbering refl refl refl refl refl c.reserve_groups.ensures.homes c.reserve_groups.ensures.present c.reserve_groups.ensures.more,
       c.self.invariant.1,
     )
 
@@ -21,8 +23,7 @@ pub invariant_of-self-in_err-reserve : goal.invariant_of-self-in_err-reserve
 invariant_of-self-in_err-reserve c =
     let r = c.self.inside in
     let timed = c.self.invariant.1 in (
-      grouped_same r.config r.placements r.timers r.homes.items r.members c.self.invariant.0 r.placements r.timers c.reserve_groups.new.self c.self.invariant.0.numbering refl refl refl (λ n. ap (λ gs. value_at gs n) c.reserve_groups.ensures.same)
-          (omega (arith, ap length c.reserve_groups.ensures.same)) c.reserve_groups.ensures.more,
+      grouped_same r.config r.placements r.timers r.members c.self.invariant.0 r.placements r.timers c.reserve_groups.new.self c.self.invariant.0.numbering refl refl refl refl refl c.reserve_groups.ensures.homes c.reserve_groups.ensures.present c.reserve_groups.ensures.more,
       record {
         numbering = timed.numbering;
         removed = timed.removed;
@@ -33,8 +34,7 @@ invariant_of-self-in_err-reserve c =
 pub invariant_of-self-in_err-reserve-2 : goal.invariant_of-self-in_err-reserve-2
 invariant_of-self-in_err-reserve-2 c =
     let r = c.self.inside in (
-      grouped_same r.config r.placements r.timers r.homes.items r.members c.self.invariant.0 r.placements r.timers c.reserve_groups.new.self c.self.invariant.0.numbering refl refl refl (λ n. ap (λ gs. value_at gs n) c.reserve_groups.ensures.same)
-          (omega (arith, ap length c.reserve_groups.ensures.same)) c.reserve_groups.ensures.more,
+      grouped_same r.config r.placements r.timers r.members c.self.invariant.0 r.placements r.timers c.reserve_groups.new.self c.self.invariant.0.numbering refl refl refl refl refl c.reserve_groups.ensures.homes c.reserve_groups.ensures.present c.reserve_groups.ensures.more,
       record {
         numbering = c.self.invariant.1.numbering;
         removed = scheduled_roomier route_labels_cmp_total route_labels_cmp-IsAntisymmetric (group_moment GroupRemoval) r.timers r.removals c.reserve-2.new.self c.reserve-2.ensures.more c.reserve-2.ensures.held c.reserve-2.ensures.kept c.self.invariant.1.removed;
@@ -46,8 +46,8 @@ pub invariant_of-self-in_err-number : goal.invariant_of-self-in_err-number
 invariant_of-self-in_err-number c =
     let r = c.self.inside in
     let e = c.reserve-2.new.self in (
-      grouped_same r.config r.placements r.timers r.homes.items r.members c.self.invariant.0 r.placements c.make_place.new.self c.reserve_groups.new.self c.self.invariant.0.numbering refl refl c.in_err-number.ensures.kept
-          (λ n. ap (λ gs. value_at gs n) c.reserve_groups.ensures.same) (omega (arith, ap length c.reserve_groups.ensures.same)) c.reserve_groups.ensures.more,
+      grouped_same r.config r.placements r.timers r.members c.self.invariant.0 r.placements c.make_place.new.self c.reserve_groups.new.self c.self.invariant.0.numbering refl refl refl c.in_err-number.ensures.kept c.in_err-number.ensures.same_next
+          c.reserve_groups.ensures.homes c.reserve_groups.ensures.present c.reserve_groups.ensures.more,
       subst (AreTimed c.make_place.new.self e) (sym c.reserve_queue.ensures) (record {
         numbering = c.make_place.ensures.numbering;
         removed = scheduled_same route_labels_cmp_total route_labels_cmp-IsAntisymmetric (group_moment GroupRemoval) r.timers c.make_place.new.self e c.in_err-number.ensures.kept c.make_place.ensures.values
@@ -73,11 +73,10 @@ invariant_of-self-2 c =
     let f = c.reserve.new.self in
     let new : number_of route_labels_cmp r.timers key ≡ None = ap (number_of route_labels_cmp r.timers) c.in_ok-key.ensures.cases ∙ ap (λ (v : Rostered). number_of route_labels_cmp v.timers group) c.self.view_is ∙ c.requires in
     let gets : GetsNumber route_labels_cmp r.timers c.make_place.new.self key (next_number r.timers) = c.in_ok-number.ensures.number (unplaced route_labels_cmp r.timers key new) in
-    let roomy : IsGrouped r.config r.placements r.timers r.homes.items k = grouped_same r.config r.placements r.timers r.homes.items r.members c.self.invariant.0 r.placements r.timers k c.self.invariant.0.numbering refl refl refl (λ n. ap (λ gs. value_at gs n) c.reserve_groups.ensures.same)
-    (omega (arith, ap length c.reserve_groups.ensures.same)) c.reserve_groups.ensures.more in
+    let roomy : IsGrouped r.config r.placements r.timers k = grouped_same r.config r.placements r.timers r.members c.self.invariant.0 r.placements r.timers k c.self.invariant.0.numbering refl refl refl refl refl c.reserve_groups.ensures.homes c.reserve_groups.ensures.present c.reserve_groups.ensures.more in
     let flushed : IsScheduled route_labels_cmp (group_moment GroupFlush) r.timers f = scheduled_roomier route_labels_cmp_total route_labels_cmp-IsAntisymmetric (group_moment GroupFlush) r.timers r.flushes c.reserve.new.self c.reserve.ensures.more c.reserve.ensures.held c.reserve.ensures.kept c.self.invariant.1.flushed in
     let removed : IsScheduled route_labels_cmp (group_moment GroupRemoval) r.timers e = scheduled_roomier route_labels_cmp_total route_labels_cmp-IsAntisymmetric (group_moment GroupRemoval) r.timers r.removals c.reserve-2.new.self c.reserve-2.ensures.more c.reserve-2.ensures.held c.reserve-2.ensures.kept c.self.invariant.1.removed in (
-      group_placed r.config r.placements r.timers r.homes.items k roomy c.make_place.new.self key new gets (omega (arith, c.in_ok-reserve_groups.ensures.room, c.in_ok-count.ensures.count)),
+      group_placed r.config r.placements r.timers k roomy c.make_place.new.self key new gets (omega (arith, c.in_ok-reserve_groups.ensures.room, c.in_ok-count.ensures.count, c.in_ok-number.ensures.next (unplaced route_labels_cmp r.timers key new))),
       subst (AreTimed c.make_place.new.self e) (sym c.reserve_queue.ensures) (record {
         numbering = c.make_place.ensures.numbering;
         removed = scheduled_placed route_labels_cmp_total route_labels_cmp-IsAntisymmetric (group_moment GroupRemoval) r.timers c.make_place.new.self e key c.count_with_next.ensures.numbering c.make_place.ensures.numbering new gets c.make_place.ensures.values (omega (arith, c.in_ok-reserve-2.ensures.room, c.in_ok-count.ensures.count)) removed;

@@ -21,8 +21,8 @@ invariant_of-self c =
     let r = c.self.inside in
     let u = c.clear_entered-2.new.self in
     let timed = c.self.invariant.1 in (
-      grouped_same r.config r.placements r.timers r.homes.items r.members c.self.invariant.0 c.clear_entered.new.self c.clear_entered-2.new.self r.members c.clear_entered.ensures.numbering c.clear_entered.ensures.keys c.clear_entered.ensures.shown c.clear_entered-2.ensures.keys
-          (λ n. refl) (le_refl (length r.members.groups)) (le_refl r.members.count),
+      grouped_same r.config r.placements r.timers r.members c.self.invariant.0 c.clear_entered.new.self c.clear_entered-2.new.self r.members c.clear_entered.ensures.numbering c.clear_entered.ensures.keys (ap length c.clear_entered.ensures.cells) c.clear_entered.ensures.shown
+          c.clear_entered-2.ensures.keys (ap length c.clear_entered-2.ensures.cells) refl refl (le_refl (length r.members.rooms)),
       record {
         numbering = c.clear_entered-2.ensures.numbering;
         removed = scheduled_same route_labels_cmp_total route_labels_cmp-IsAntisymmetric (group_moment GroupRemoval) r.timers u r.removals c.clear_entered-2.ensures.keys (λ n. ap (λ l. value_at l n) c.clear_entered-2.ensures.cells) timed.removed;

@@ -8,10 +8,10 @@ use Rattle.amr_engine.proofs.state.roster.Roster.new.Goals as goal
 
 pub invariant_of-result : goal.invariant_of-result
 invariant_of-result c = (
-  grouped_first c.new.result c.new-2.result c.new-3.result c.new-4.result.items c.new-5.result c.new-2.ensures.numbering c.new-2.ensures.keys c.new-3.ensures.keys c.new-5.ensures.groups,
+  grouped_first c.new.result c.new-2.result c.new-3.result c.new-4.result c.new-2.ensures.numbering c.new-2.ensures.keys c.new-2.ensures.cells c.new-3.ensures.cells c.new-4.ensures,
   record {
     numbering = c.new-3.ensures.numbering;
-    removed = none_scheduled route_labels_cmp_total route_labels_cmp-IsAntisymmetric (group_moment GroupRemoval) c.new-3.result c.new-6.result refl c.new-3.ensures.keys c.new-3.ensures.cells c.new-6.ensures.held c.new-6.ensures.kept;
-    flushed = none_scheduled route_labels_cmp_total route_labels_cmp-IsAntisymmetric (group_moment GroupFlush) c.new-3.result c.new-7.result refl c.new-3.ensures.keys c.new-3.ensures.cells c.new-7.ensures.held c.new-7.ensures.kept;
+    removed = none_scheduled route_labels_cmp_total route_labels_cmp-IsAntisymmetric (group_moment GroupRemoval) c.new-3.result c.new-5.result refl c.new-3.ensures.keys c.new-3.ensures.cells c.new-5.ensures.held c.new-5.ensures.kept;
+    flushed = none_scheduled route_labels_cmp_total route_labels_cmp-IsAntisymmetric (group_moment GroupFlush) c.new-3.result c.new-6.result refl c.new-3.ensures.keys c.new-3.ensures.cells c.new-6.ensures.held c.new-6.ensures.kept;
   },
 )

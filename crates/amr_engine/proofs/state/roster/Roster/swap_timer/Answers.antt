@@ -1,5 +1,6 @@
 use Rattle.std.proofs.Common.{◌≡◌, ◌||◌, Some, length, refl, ap, ◌∙◌}
 use Rattle.std.proofs.Math.Nat.{le_refl}
+use Rattle.std.proofs.lemmas.List.{length-set}
 use Rattle.std.specs.Ordering.{eq_by_cmp}
 use Rattle.amr_labels.specs.Map as map
 use Rattle.amr_tables.specs.Numbered.{map_of, number_of, has_place, is_entered}
@@ -36,7 +37,7 @@ invariant_of-self c =
     let group = c.requires.0 in
     let n = c.args.number in
     let number : number_of route_labels_cmp t.timers group ≡ Some n = ap (λ (v : Rostered). number_of route_labels_cmp v.timers group) c.self.view_is ∙ c.requires.1 in (
-      grouped_same t.config t.placements t.timers t.homes.items t.members c.self.invariant.0 t.placements c.swap_at-was_entered.new.self t.members c.self.invariant.0.numbering refl refl c.swap_at-was_entered.ensures.keys (λ n. refl) (le_refl (length t.members.groups)) (le_refl t.members.count),
+      grouped_same t.config t.placements t.timers t.members c.self.invariant.0 t.placements c.swap_at-was_entered.new.self t.members c.self.invariant.0.numbering refl refl refl c.swap_at-was_entered.ensures.keys (ap length c.swap_at-was_entered.ensures.cells ∙ length-set t.timers.cells n c.args.timer.now) refl refl (le_refl (length t.members.rooms)),
       record {
         numbering = c.swap_at-was_entered.ensures.numbering;
         removed = scheduled_set route_labels_cmp_total route_labels_cmp-IsAntisymmetric (group_moment GroupRemoval) t.timers c.swap_at-was_entered.new.self t.removals c.update-2.new.self group n number c.swap_at-was_entered.ensures.keys c.update-2.ensures.room c.update-2.ensures.held c.update-2.ensures.kept c.self.invariant.1.removed;
