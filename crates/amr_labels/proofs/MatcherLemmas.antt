@@ -3,7 +3,6 @@ pub mod Asking
 pub mod Finds
 pub mod WithoutGroups
 pub mod BetweenCharacters
-pub mod CachedMatches
 pub mod BuiltPatterns
 pub mod MatcherRuns
 pub mod MatcherKinds

@@ -27,9 +27,9 @@ use std::marker::Model;
 const MOST_AT_ONCE: usize = 1024;
 
 /// How many label sets the silences are asked for at once at least. Fewer are left to be asked for
-/// one by one: if most of their values were met before, cached answers are faster than preparing the
-/// search of each pattern.
-const FEWEST_AT_ONCE: usize = 8;
+/// one by one: cached answers, and walks over short values, are faster than preparing the search of
+/// each pattern.
+const FEWEST_AT_ONCE: usize = 64;
 
 /// How many changes of silences are kept at most. When one more comes, all that is cached of label
 /// sets is forgotten.

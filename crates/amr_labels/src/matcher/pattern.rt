@@ -128,7 +128,7 @@ impl Pattern {
     pub fn matches(&self, alloc: Global, value: &str) -> Result<bool, AllocError>
         ensures { IfOk result (λ found. found ≡ pattern_matches self.now value.now) }
     {
-        let mut search = self.built.search(alloc)?;
-        Ok(search.is_match(value))
+        let found = self.built.is_match(alloc, value)?;
+        Ok(found)
     }
 }

@@ -1,6 +1,7 @@
-//! What searches for a pattern. Nobody asks what the groups of a pattern captured. A search of
-//! `regex` has room for it all the same, twice as many numbers as there are groups for each state.
-//! So a pattern for which this would be much is searched for without its groups.
+//! What searches for a pattern. A search of `regex` is prepared anew for each value, and has room for
+//! what each group captures, for which nobody asks. So a small pattern is built once more, without its
+//! groups: in a short value its states are walked, which takes no preparation. One with many groups
+//! is searched for without them.
 ghost use Rattle.std.specs.Prelude.{◌≡◌, IfOk, IfSome, is_some};
 ghost use Rattle.regex.specs.Patterns.{find_str};
 ghost use Rattle.regex.specs.Strings.{regex_pattern};
@@ -13,11 +14,20 @@ use crate::matcher::ungrouped::ungrouped;
 use regex::{Matcher, Regex};
 use regex_meta::{Program, Searcher};
 use regex_syntax::Config;
+use regex_vm::Backtracker;
 use std::alloc::{AllocError, Global};
 
-/// A pattern keeps its groups up to this product of their number and its limit in bytes. A search
-/// takes up to three bytes for each.
+/// A pattern keeps its groups up to this product of their number and its limit in bytes, unless it is
+/// small. A search takes up to three bytes for each.
 const MOST_WITH_GROUPS: usize = 1 << 22;
+
+/// The limit in bytes up to which a pattern is small, as most are. To build it again takes as long as
+/// ten searches.
+const SMALL: usize = 16 << 10;
+
+/// How many pairs of a state and a place in a value are walked at most. A walk over all of so many
+/// takes as long as a few searches.
+const MOST_WALKED: usize = 1 << 12;
 
 /// A pattern that was built.
 pub(crate) enum Built {
@@ -45,14 +55,14 @@ impl Drop for Built {
 }
 
 impl Built {
-    /// Keeps what `regex` built with this limit, or drops its groups if a search would take much
-    /// memory for them.
+    /// Keeps what `regex` built with this limit, or builds it without its groups if it is small or a
+    /// search would take much memory for them.
     pub(crate) fn new(alloc: Global, regex: Regex, limit: usize) -> Result<Built, AllocError>
         ensures { IfOk result (λ built. (pattern : Text) → IsBuiltFrom regex pattern
             → IsFoundAs (built_pattern built) pattern) }
     {
         let groups = regex.captures_len().saturating_sub(1);
-        if groups.saturating_mul(limit) <= MOST_WITH_GROUPS {
+        if limit > SMALL && groups.saturating_mul(limit) <= MOST_WITH_GROUPS {
             return Ok(Built::Whole(regex));
         }
         match bare(alloc, regex.as_str(), limit)? {
@@ -69,6 +79,42 @@ impl Built {
             Built::Whole(regex) => Ok(Search::Whole(regex.matcher(alloc)?)),
             Built::Bare(program) => Ok(Search::Bare(Searcher::new(alloc, program)?)),
         }
+    }
+
+    /// Returns whether the pattern is found in the value.
+    pub(crate) fn is_match(&self, alloc: Global, value: &str) -> Result<bool, AllocError>
+        ensures { IfOk result (λ found. found
+            ≡ is_some (find_str (built_pattern self.now) value.now 0)) }
+    {
+        if let Built::Bare(program) = self {
+            if let Some(found) = walked(alloc, program, value) {
+                return Ok(found);
+            }
+        }
+        let mut search = self.search(alloc)?;
+        Ok(search.is_match(value))
+    }
+}
+
+/// Returns whether what is searched for is found in a value, or `None` if it would take long to walk
+/// its states, or if what is found begins inside a character.
+fn walked(alloc: Global, program: &Program, value: &str) -> Option<bool>
+    ensures { IfSome result (λ found. found
+        ≡ is_some (find_str (pattern_of program.now) value.now 0)) }
+{
+    let nfa = &program.dfa.nfa;
+    let bytes = value.as_bytes();
+    let end = bytes.len();
+    if end.saturating_mul(nfa.states.len()) > MOST_WALKED {
+        return None;
+    }
+    let Ok(found) = Backtracker::new(alloc).find(nfa, bytes, 0, end, end, &mut []) else {
+        return None;
+    };
+    match found {
+        None => Some(false),
+        Some((from, _)) if value.is_char_boundary(from) => Some(true),
+        Some(_) => None,
     }
 }
 
