@@ -21,7 +21,7 @@ use Rattle.amr_config.specs.Standings.{is_open, takes_from, closes, standing_of,
 use Rattle.amr_config.proofs.Lines.{line_of-root, line_of-child}
 use Rattle.amr_config.proofs.Ranges.{any_below, any_nowhere, any_none_below, any_more, any_wider, map_same, filter_same, range_more}
 
-abbrev standing : Bool → Bool → Bool → Standing
+abbrev pub standing : Bool → Bool → Bool → Standing
 standing reached taken closed = record { is_open = reached; is_taken = taken; is_closed = closed }
 
 or_true : (b : Bool) → (b || true) ≡ true
@@ -46,7 +46,7 @@ module _ (config : Config) (labels : LabelSet) (first : AreParentsFirst config) 
       ap (λ o. ((nat_lt m n && option_map_or (λ parent. is_child config parent m) o false) && matches_route config labels m) && not (route_is (λ route. route.continues) config m)) e
       ∙ third_false (nat_lt m n) (matches_route config labels m) (not (route_is (λ route. route.continues) config m)))
 
-  cut_child : (n parent : ℕ) → n ≤ length config.routes → parent_of config n ≡ Some parent → is_cut_off config labels n ≡ list_any (closes config labels parent) (range_with_len 0 n)
+  pub cut_child : (n parent : ℕ) → n ≤ length config.routes → parent_of config n ≡ Some parent → is_cut_off config labels n ≡ list_any (closes config labels parent) (range_with_len 0 n)
   cut_child n parent le e =
       any_below _ (closes config labels parent) n (length config.routes) le
       (λ m h.
@@ -56,7 +56,7 @@ module _ (config : Config) (labels : LabelSet) (first : AreParentsFirst config) 
       ap (λ o. ((nat_lt m n && option_map_or (λ parent. is_child config parent m) o false) && matches_route config labels m) && not (route_is (λ route. route.continues) config m)) e
       ∙ ap (λ b. ((b && is_child config parent m) && matches_route config labels m) && not (route_is (λ route. route.continues) config m)) (le-ltb m n h))
 
-  open_root : (n : ℕ) → parent_of config n ≡ None → is_open config labels n ≡ matches_route config labels n
+  pub open_root : (n : ℕ) → parent_of config n ≡ None → is_open config labels n ≡ matches_route config labels n
   unfolding is_open
   open_root n e =
       ap (list_all (λ m. matches_route config labels m && not (is_cut_off config labels m))) (line_of-root config first n e)
@@ -64,7 +64,7 @@ module _ (config : Config) (labels : LabelSet) (first : AreParentsFirst config) 
       ∙ ap (λ b. matches_route config labels n && not b) (cut_root n e)
       ∙ and_true (matches_route config labels n)
 
-  open_child : (n parent : ℕ) → parent_of config n ≡ Some parent → is_open config labels n ≡ ((matches_route config labels n && not (is_cut_off config labels n)) && is_open config labels parent)
+  pub open_child : (n parent : ℕ) → parent_of config n ≡ Some parent → is_open config labels n ≡ ((matches_route config labels n && not (is_cut_off config labels n)) && is_open config labels parent)
   unfolding is_open
   open_child n parent e = ap (list_all (λ m. matches_route config labels m && not (is_cut_off config labels m))) (line_of-child config first n parent e)
 
@@ -147,7 +147,7 @@ module _ (config : Config) (labels : LabelSet) (first : AreParentsFirst config) 
       let parts = and_parts (is_open config labels parent) (list_any (closes config labels parent) (range_with_len 0 n)) (sym (ap (λ x. x.is_closed) same) ∙ c) in
       ap (λ x. x.is_open) same ∙ parts.0
 
-  shut_open : (n parent : ℕ) → n ≤ length config.routes → parent_of config n ≡ Some parent → (m : Standing) → m ≡ standing_of config labels n parent → (m.is_open ≡ false) ⊎ (m.is_closed ≡ true) → is_open config labels n ≡ false
+  pub shut_open : (n parent : ℕ) → n ≤ length config.routes → parent_of config n ≡ Some parent → (m : Standing) → m ≡ standing_of config labels n parent → (m.is_open ≡ false) ⊎ (m.is_closed ≡ true) → is_open config labels n ≡ false
   shut_open n parent le e m same (inl o) =
       open_child n parent e ∙ ap (λ b. (matches_route config labels n && not (is_cut_off config labels n)) && b) (parent_open n parent m false same o)
       ∙ and-false (matches_route config labels n && not (is_cut_off config labels n))

@@ -4,6 +4,7 @@ pub mod Found
 pub mod Inherited
 pub mod Lines
 pub mod OwnPaths
+pub mod PassingOver
 pub mod Indexes
 pub mod Ranges
 pub mod Receivers

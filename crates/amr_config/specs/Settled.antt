@@ -15,6 +15,7 @@ use Rattle.amr_config.specs.Intervals.{AreIntervals}
 use Rattle.amr_config.specs.Paths.{AreOwn}
 use Rattle.amr_config.specs.Receivers.{AreReceivers}
 use Rattle.amr_config.specs.RuleNames.{AreNamesOf}
+use Rattle.amr_config.specs.Subtrees.{AreSubtreeEnds}
 use Rattle.amr_config.specs.Routing.{route_numbers, route_is, parent_of, inherited_value, group_wait_of, group_interval_of, repeat_interval_of, receiver_name_of, active_intervals_of, mute_intervals_of, path_of, sorted_matchers}
 
 -- the settings of the route with this number; the defaults if there is no such route
@@ -52,6 +53,7 @@ pub record AreSettled (parts : Parts) : Type 0 where
   pub parents : AreParentsFirst (config_of_parts parts)
   pub receivers : AreReceivers parts.stated.receivers parts.settings parts.receiver_indexes
   pub own_paths : AreOwn (config_of_parts parts) parts.own_paths
+  pub subtree_ends : AreSubtreeEnds parts.stated.routes parts.subtree_ends
   pub intervals : AreIntervals parts.stated.time_intervals parts.interval_indexes
   pub rule_names : IfSome parts.rule_names (AreNamesOf parts.stated.rules)
 

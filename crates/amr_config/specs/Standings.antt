@@ -1,5 +1,5 @@
 -- What is known of a route when some routes have been seen.
-use Rattle.std.specs.Prelude.{ℕ, Bool, false, not, ◌&&◌, List, map, slice_get}
+use Rattle.std.specs.Prelude.{◌≡◌, ℕ, ◌<◌, ◌≤◌, Bool, false, not, ◌&&◌, List, map, length, slice_get}
 use Rattle.std.specs.Option.{option_map_or}
 use Rattle.std.specs.List.{list_all, list_any, filter, range_with_len}
 use Rattle.amr_labels.specs.Labels.{LabelSet}
@@ -30,6 +30,12 @@ standing_of config labels stage n = record {
 -- the standings of the routes that have been seen
 unfoldable pub standings_at : Config → LabelSet → ℕ → List Standing
 standings_at config labels stage = map (standing_of config labels stage) (range_with_len 0 stage)
+
+-- Of the routes, more have been seen now than before, and these are the standings of those.
+pub record IsMoreSeen (config : Config) (labels : LabelSet) (before now : ℕ) (standings : List Standing) : Type 0 where
+  pub more : before < now
+  pub within : now ≤ length config.routes
+  pub seen : standings ≡ standings_at config labels now
 
 -- the standing is open, and no child takes the alert
 abbrev pub is_chosen_standing : Standing → Bool

@@ -12,6 +12,7 @@ ghost use Rattle.amr_config.specs.Receivers.{receiver_at, receiver_named};
 ghost use Rattle.amr_config.specs.Routing.{group_wait_of, group_interval_of, repeat_interval_of, receiver_name_of, integrations_of, path_of, HasOwnPath, group_of, grouped_by, is_within, is_active_at, is_muted_at};
 ghost use Rattle.amr_config.specs.RuleNames.{kept_for};
 ghost use Rattle.amr_config.specs.Settled.{settings_of, stated_config, AreParentsFirst};
+ghost use Rattle.amr_config.specs.Subtrees.{IsSubtreeEnd};
 
 use crate::defaults::{GROUP_INTERVAL_MINUTES, GROUP_WAIT_SECONDS, REPEAT_INTERVAL_HOURS};
 use crate::inherit::inherit;
@@ -22,6 +23,7 @@ use crate::route_path::RoutePath;
 use crate::rule_names::rule_names;
 use crate::settings::Settings;
 use crate::stated::{Grouping, InhibitRule, Integration, NamedInterval, Receiver, Route, Stated};
+use crate::subtrees::subtree_ends;
 use amr_labels::matcher::Matchers;
 use amr_labels::{Exact, Labels, Listing, Names, Text};
 use amr_time::{Moment, Span};
@@ -41,6 +43,8 @@ pub(crate) struct Parts {
     pub(crate) receiver_indexes: Listing<Option<usize>>,
     /// For each route, whether no other route has its path.
     pub(crate) own_paths: Listing<bool>,
+    /// For each route, where the routes below it end.
+    pub(crate) subtree_ends: Listing<usize>,
     /// For each name of a time interval, its index.
     pub(crate) interval_indexes: BTreeMap<Text, usize>,
     pub(crate) rule_names: Option<Names>,
@@ -91,11 +95,13 @@ impl Config {
         let receiver_indexes = receiver_indexes(alloc, &stated, settings.as_slice())?;
         let interval_indexes = interval_indexes(alloc, stated.time_intervals.as_slice())?;
         let own_paths = own_paths(alloc, &stated, settings.as_slice())?;
+        let subtree_ends = subtree_ends(alloc, stated.routes.as_slice())?;
         let parts = Parts {
             stated,
             settings,
             receiver_indexes,
             own_paths,
+            subtree_ends,
             interval_indexes,
             rule_names,
         };
@@ -118,6 +124,18 @@ impl Config {
         ensures { result ≡ length self.now.routes }
     {
         self.shared.stated.routes.len()
+    }
+
+    /// Returns where the routes below a route end: they are those after it and before this number.
+    pub(crate) fn subtree_end(&self, route: usize) -> usize
+        requires { route < length self.now.routes }
+        ensures value { IsSubtreeEnd self.now.routes route result }
+        ensures parents { AreParentsFirst self.now }
+    {
+        match self.shared.subtree_ends.as_slice().get(route) {
+            Some(end) => *end,
+            None => unreachable!(),
+        }
     }
 
     /// Returns the number of receivers.

@@ -1,9 +1,9 @@
 //! Routing: which routes take an alert. One pass over the routes in preorder gives each its standing, and
 //! its parent if it matches.
 ghost use Rattle.std.specs.Prelude.{◌≡◌, ◌+◌, ◌<◌, ◌≤◌, length, vec_len, IfOk, OnOk, Some, false};
-ghost use Rattle.amr_labels.specs.Matcher.Matchers.{all_hold};
+ghost use Rattle.amr_labels.specs.Labels.{LabelSet};
 ghost use Rattle.amr_config.specs.Routing.{chosen_routes, parent_of, matches_route};
-ghost use Rattle.amr_config.specs.Standings.{standings_at, chosen_numbers, is_chosen_standing};
+ghost use Rattle.amr_config.specs.Standings.{IsMoreSeen, is_open, standings_at, chosen_numbers, is_chosen_standing};
 
 use crate::config::Config;
 use amr_labels::Labels;
@@ -66,13 +66,13 @@ fn standings(
         ≡ standings_at config.now labels.now (length config.now.routes)) }
 {
     let mut standings = Vec::with_capacity(alloc, config.route_count())?;
-    for _route in 0..config.route_count() {
+    while standings.len() < config.route_count() {
         note_next(answers, config, labels, &mut standings)?;
     }
     Ok(standings)
 }
 
-/// Notes the next route.
+/// Notes the next route, and those below it if it isn't open.
 fn note_next(
     answers: &mut MatchCache,
     config: &Config,
@@ -82,8 +82,8 @@ fn note_next(
     requires next { vec_len standings.old < length config.now.routes }
     requires so_far { standings.old.items
         ≡ standings_at config.now labels.now (vec_len standings.old) }
-    ensures { OnOk result (standings.new.items
-        ≡ standings_at config.now labels.now (vec_len standings.old + 1)) }
+    ensures { OnOk result (IsMoreSeen config.now labels.now (vec_len standings.old)
+        (vec_len standings.new) standings.new.items) }
 {
     let settings = config.route(standings.len());
     match settings.parent {
@@ -96,7 +96,7 @@ fn note_next(
     }
 }
 
-/// Notes the next route, which has a parent.
+/// Notes the next route, which has a parent, and those below it if it isn't open.
 fn note_child(
     answers: &mut MatchCache,
     config: &Config,
@@ -108,18 +108,13 @@ fn note_child(
     requires child { parent_of config.now (vec_len standings.old) ≡ Some parent }
     requires so_far { standings.old.items
         ≡ standings_at config.now labels.now (vec_len standings.old) }
-    ensures { OnOk result (standings.new.items
-        ≡ standings_at config.now labels.now (vec_len standings.old + 1)) }
+    ensures { OnOk result (IsMoreSeen config.now labels.now (vec_len standings.old)
+        (vec_len standings.new) standings.new.items) }
 {
     let settings = config.route(standings.len());
     let above = standings[parent];
-    if !above.is_open || above.is_closed {
-        standings.push(Standing::new(false))?;
-        return Ok(());
-    }
-    if !settings.matchers.matches_all(answers, labels)? {
-        standings.push(Standing::new(false))?;
-        return Ok(());
+    if !above.is_open || above.is_closed || !settings.matchers.matches_all(answers, labels)? {
+        return pass_over(config, standings);
     }
     standings[parent] = Standing {
         is_open: true,
@@ -128,6 +123,19 @@ fn note_child(
     };
     standings.push(Standing::new(true))?;
     Ok(())
+}
+
+/// Notes that the next route isn't open, and so none of those below it.
+fn pass_over(config: &Config, standings: &mut Vec<Standing>) -> Result<(), AllocError>
+    requires next { vec_len standings.old < length config.now.routes }
+    ensures { OnOk result ((labels : LabelSet)
+        → standings.old.items ≡ standings_at config.now labels (vec_len standings.old)
+        → is_open config.now labels (vec_len standings.old) ≡ false
+        → IsMoreSeen config.now labels (vec_len standings.old) (vec_len standings.new)
+        standings.new.items) }
+{
+    let end = config.subtree_end(standings.len());
+    standings.resize(end, Standing::new(false))
 }
 
 impl Config {

@@ -1,6 +1,8 @@
-use Rattle.std.proofs.Common.{◌++◌, ◌∷◌, [], sym, ap, ◌∙◌}
+use Rattle.std.proofs.Common.{◌+◌, ◌++◌, ◌∷◌, [], sym, ap, subst, ◌∙◌}
+use Rattle.amr_config.specs.Routing.{parent_of}
 use Rattle.amr_config.specs.Standings.{standings_at}
 use Rattle.amr_config.proofs.Chosen.{root_step, matches_is, parent_is}
+use Rattle.amr_config.proofs.PassingOver.{one_more}
 use Rattle.amr_config.proofs.routing.note_next.Goals as goal
 
 pub note_child-requires-clause-child : goal.note_child-requires-clause-child
@@ -9,11 +11,14 @@ note_child-requires-clause-child c =
 
 pub returns-in_ok-push-in-None : goal.returns-in_ok-push-in-None
 returns-in_ok-push-in-None c =
+    let config = c.args.config.now in
+    let labels = c.args.labels.now in
     let n = c.len.result in
     let s = c.route-settings.result.now in
-    let step = root_step c.args.config.now c.args.labels.now c.route-settings.ensures.parents n c.in_ok-is_open-in-None.is_open
-    (parent_is c.args.config.now n s _ c.route-settings.ensures.value c.in-None.is)
-    (matches_is c.args.config.now c.args.labels.now n c.in_ok-is_open-in-None.is_open s (rw c.len.ensures c.requires.next) c.route-settings.ensures.value c.in_ok-is_open-in-None.ensures) in
-    rw (← c.len.ensures) (c.in_ok-push-in-None.ensures.items
-    ∙ ap (λ ms. ms ++ c.new.result ∷ []) (c.requires.so_far ∙ ap (standings_at c.args.config.now c.args.labels.now) (sym c.len.ensures))
-    ∙ ap (λ m. standings_at c.args.config.now c.args.labels.now n ++ m ∷ []) c.new.ensures ∙ step)
+    let step = root_step config labels c.route-settings.ensures.parents n c.in_ok-is_open-in-None.is_open
+    (parent_is config n s _ c.route-settings.ensures.value c.in-None.is)
+    (matches_is config labels n c.in_ok-is_open-in-None.is_open s (rw c.len.ensures c.requires.next) c.route-settings.ensures.value c.in_ok-is_open-in-None.ensures) in
+    rw (← c.len.ensures) (one_more config labels n _ c.push.new.self.items (rw c.len.ensures c.requires.next) (c.in_ok-push-in-None.ensures.len ∙ ap (λ m. m + 1) (sym c.len.ensures))
+    (c.in_ok-push-in-None.ensures.items
+    ∙ ap (λ ms. ms ++ c.new.result ∷ []) (c.requires.so_far ∙ ap (standings_at config labels) (sym c.len.ensures))
+    ∙ ap (λ m. standings_at config labels n ++ m ∷ []) c.new.ensures ∙ step))
