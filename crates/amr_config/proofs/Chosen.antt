@@ -256,7 +256,7 @@ module _ (config : Config) (labels : LabelSet) where
       ∙ get_or-map-range_with_len (standing_of config labels n) 0 n k k (standing_of config labels n k) h (omega arith)))
       ∙ chosen_standing k))
 
-chosen_more_at : (standings : List Standing) (n : ℕ) (b : Bool) → option_map_or is_chosen_standing (slice_get standings n) false ≡ b → chosen_numbers standings (n + 1) ≡ chosen_numbers standings n ++ cond b (n ∷ []) []
+pub chosen_more_at : (standings : List Standing) (n : ℕ) (b : Bool) → option_map_or is_chosen_standing (slice_get standings n) false ≡ b → chosen_numbers standings (n + 1) ≡ chosen_numbers standings n ++ cond b (n ∷ []) []
 chosen_more_at standings n b e =
     ap (filter (λ k. option_map_or is_chosen_standing (slice_get standings k) false)) (range_more n)
     ∙ filter-append (λ k. option_map_or is_chosen_standing (slice_get standings k) false) (range_with_len 0 n) (n ∷ [])

@@ -1,21 +1,28 @@
 -- The walk through the routes may pass over those below a route that isn't open.
-use Rattle.std.proofs.Common.{◌≡◌, ℕ, zero, suc, ◌+◌, ◌-◌, ◌<◌, ◌≤◌, Bool, true, false, not, List, [], ◌∷◌, ◌++◌, length, take, replicate, Option, Some, None, refl, sym, ap, subst, ◌∙◌, arith, inl, inr, ◌⊎◌, true≢false}
+use Rattle.std.proofs.Common.{◌≡◌, ℕ, zero, suc, ◌+◌, ◌-◌, ◌<◌, ◌≤◌, Bool, true, false, not, List, [], ◌∷◌, ◌++◌, length, get_or, take, replicate, Option, Some, None, refl, sym, ap, subst, ◌∙◌, arith, inl, inr, ◌⊎◌, true≢false}
 use Rattle.std.specs.Prelude.{◌&&◌, IsSomeAnd, OnOk, Result, Ok, Err, is_ok, if◌then◌else◌}
-use Rattle.std.specs.List.{list_any, range_with_len}
+use Rattle.std.specs.Option.{option_map_or}
+use Rattle.std.specs.List.{list_any, range_with_len, slice_get}
 use Rattle.std.proofs.Math.Bool.{and-false}
 use Rattle.std.proofs.lemmas.Bool.{cases_eq}
+use Rattle.std.proofs.lemmas.Option.{slice_get-get_or}
+use Rattle.std.proofs.lemmas.List.FromFn.{get_or-map-range_with_len}
 use Rattle.std.proofs.lemmas.List.{append-nil, append_assoc, replicate_more, take_all, length-append, length-replicate}
 use Rattle.amr_labels.specs.Labels.{LabelSet}
 use Rattle.amr_config.specs.declared.routing.Standing.{Standing}
 use Rattle.amr_config.specs.Stated.Config.{Config}
 use Rattle.amr_config.specs.Routing.{parent_of, matches_route, is_cut_off}
 use Rattle.amr_config.specs.Settled.{AreParentsFirst}
-use Rattle.amr_config.specs.Standings.{IsMoreSeen, is_open, closes, standing_of, standings_at}
+use Rattle.amr_config.specs.Standings.{IsMoreSeen, is_open, closes, standing_of, standings_at, is_chosen_standing, chosen_numbers}
 use Rattle.amr_config.specs.Subtrees.{IsSubtreeEnd}
-use Rattle.amr_config.proofs.Chosen.{standing, open_root, open_child, cut_child, root_step, shut_step, unmatched_step, length-standings_at}
+use Rattle.amr_config.proofs.Chosen.{standing, open_root, open_child, cut_child, root_step, shut_step, unmatched_step, length-standings_at, chosen_more_at}
 
 abbrev pub shut : Standing
 shut = standing false false false
+
+standing_open : (config : Config) (labels : LabelSet) (n m : ℕ) → (standing_of config labels n m).is_open ≡ is_open config labels m
+unfolding standing_of
+standing_open config labels n m = refl
 
 pub without_error : {X E : Type 0} (r : Result X E) {P : Type 0} → (is_ok r ≡ true → P) → OnOk r P
 without_error (Ok x) h = h refl
@@ -31,10 +38,6 @@ one_more config labels n now standings lt len seen =
     record { more = omega (arith, len); within = omega (arith, len, lt); seen = seen ∙ ap (standings_at config labels) (sym len) }
 
 module _ (config : Config) (labels : LabelSet) (first : AreParentsFirst config) where
-  standing_open : (n parent : ℕ) → (standing_of config labels n parent).is_open ≡ is_open config labels parent
-  unfolding standing_of
-  standing_open n parent = refl
-
   standing_closed : (n parent : ℕ) → n ≤ length config.routes → parent_of config n ≡ Some parent → is_open config labels parent ≡ true → is_cut_off config labels n ≡ true → (standing_of config labels n parent).is_closed ≡ true
   unfolding standing_of
   standing_closed n parent le e o cut =
@@ -44,7 +47,7 @@ module _ (config : Config) (labels : LabelSet) (first : AreParentsFirst config) 
   child_step : (n parent : ℕ) → n ≤ length config.routes → parent_of config n ≡ Some parent → is_open config labels n ≡ false → (mt cut above : Bool) → matches_route config labels n ≡ mt → is_cut_off config labels n ≡ cut → is_open config labels parent ≡ above → standings_at config labels n ++ shut ∷ [] ≡ standings_at config labels (n + 1)
   child_step n parent le e o false cut above m c p = unmatched_step config labels first n parent e m
   child_step n parent le e o true cut false m c p =
-      shut_step config labels first n parent le e (standing_of config labels n parent) refl (inl (standing_open n parent ∙ p))
+      shut_step config labels first n parent le e (standing_of config labels n parent) refl (inl (standing_open config labels n parent ∙ p))
   child_step n parent le e o true true true m c p =
       shut_step config labels first n parent le e (standing_of config labels n parent) refl (inr (standing_closed n parent le e p c))
   child_step n parent le e o true false true m c p =
@@ -65,7 +68,7 @@ module _ (config : Config) (labels : LabelSet) (first : AreParentsFirst config) 
       ∙ and-false (matches_route config labels m && not (is_cut_off config labels m))
 
   -- none below a route that isn't open is open
-  below_shut : (most n stop : ℕ) → IsSubtreeEnd config.routes n stop → is_open config labels n ≡ false → (m : ℕ) → n ≤ m → m < stop → m < most → is_open config labels m ≡ false
+  pub below_shut : (most n stop : ℕ) → IsSubtreeEnd config.routes n stop → is_open config labels n ≡ false → (m : ℕ) → n ≤ m → m < stop → m < most → is_open config labels m ≡ false
   below_shut zero n stop ends o m le lt h = absurd (omega (arith, h))
   below_shut (suc most) n stop ends o m le lt h = elim (cases_eq n m) [
     | inl same ↦ subst (λ q. is_open config labels q ≡ false) same o
@@ -103,3 +106,34 @@ module _ (config : Config) (labels : LabelSet) (first : AreParentsFirst config) 
             ∙ fill (stop - n) n (omega (arith, ends.after, ends.within)) (λ m from to. below_shut stop n stop ends o m from (omega (arith, to, ends.after)) (omega (arith, to, ends.after)))
             ∙ ap (standings_at config labels) all;
       }
+
+-- no more are chosen than below n if none from there on is open
+none_chosen : (k n : ℕ) (standings : List Standing) → ((m : ℕ) → n ≤ m → m < n + k → option_map_or is_chosen_standing (slice_get standings m) false ≡ false) → chosen_numbers standings (n + k) ≡ chosen_numbers standings n
+none_chosen zero n standings none =
+    let same : n + zero ≡ n = omega arith in
+    ap (chosen_numbers standings) same
+none_chosen (suc k) n standings none =
+    let last : n + suc k ≡ n + k + 1 = omega arith in
+    ap (chosen_numbers standings) last ∙ chosen_more_at standings (n + k) false (none (n + k) (omega arith) (omega arith))
+    ∙ append-nil (chosen_numbers standings (n + k)) ∙ none_chosen k n standings (λ m from to. none m from (omega (arith, to)))
+
+module _ (config : Config) (labels : LabelSet) (standings : List Standing) (known : standings ≡ standings_at config labels (length standings)) where
+  -- the standing of a route says whether it is open
+  pub open_as_known : (n : ℕ) (d : Standing) → n < length standings → (get_or standings n d).is_open ≡ is_open config labels n
+  unfolding standings_at
+  open_as_known n d h =
+      ap (λ (m : Standing). m.is_open) (ap (λ ms. get_or ms n d) known ∙ get_or-map-range_with_len (standing_of config labels (length standings)) 0 (length standings) n n d h (omega arith))
+      ∙ standing_open config labels (length standings) n
+
+  unchosen : (m : ℕ) → m < length standings → is_open config labels m ≡ false → option_map_or is_chosen_standing (slice_get standings m) false ≡ false
+  unchosen m h o =
+      let d : Standing = shut in
+      ap (λ s. option_map_or is_chosen_standing s false) (slice_get-get_or standings m d h)
+      ∙ ap (λ b. b && not (get_or standings m d).is_taken) (open_as_known m d h ∙ o)
+
+  -- those that are chosen below the next route to see are those below this one, and this one if it is
+  pub chosen_to_next : (n next : ℕ) → n < next → next ≤ length standings → ((m : ℕ) → n < m → m < next → is_open config labels m ≡ false) → chosen_numbers standings next ≡ chosen_numbers standings (n + 1)
+  chosen_to_next n next lt le none =
+      let all : next ≡ n + 1 + (next - (n + 1)) = omega (arith, lt) in
+      ap (chosen_numbers standings) all
+      ∙ none_chosen (next - (n + 1)) (n + 1) standings (λ m from to. unchosen m (omega (arith, to, lt, le)) (none m (omega (arith, from)) (omega (arith, to, lt))))

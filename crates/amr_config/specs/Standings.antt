@@ -44,3 +44,7 @@ is_chosen_standing standing = standing.is_open && not standing.is_taken
 -- the numbers below a limit whose standings are chosen
 abbrev pub chosen_numbers : List Standing → ℕ → List ℕ
 chosen_numbers standings n = filter (λ k. option_map_or is_chosen_standing (slice_get standings k) false) (range_with_len 0 n)
+
+-- these are the numbers below a limit whose standings are chosen, if the standings are those of a label set
+abbrev pub AreChosenBy : Config → List Standing → ℕ → List ℕ → Type 0
+AreChosenBy config standings limit numbers = (labels : LabelSet) → standings ≡ standings_at config labels (length standings) → numbers ≡ chosen_numbers standings limit

@@ -1,9 +1,9 @@
 //! Routing: which routes take an alert. One pass over the routes in preorder gives each its standing, and
 //! its parent if it matches.
-ghost use Rattle.std.specs.Prelude.{◌≡◌, ◌+◌, ◌<◌, ◌≤◌, length, vec_len, IfOk, OnOk, Some, false};
+ghost use Rattle.std.specs.Prelude.{◌≡◌, ℕ, ◌+◌, ◌<◌, ◌≤◌, length, vec_len, IfOk, OnOk, Some, false};
 ghost use Rattle.amr_labels.specs.Labels.{LabelSet};
 ghost use Rattle.amr_config.specs.Routing.{chosen_routes, parent_of, matches_route};
-ghost use Rattle.amr_config.specs.Standings.{IsMoreSeen, is_open, standings_at, chosen_numbers, is_chosen_standing};
+ghost use Rattle.amr_config.specs.Standings.{AreChosenBy, IsMoreSeen, is_open, standings_at, is_chosen_standing};
 
 use crate::config::Config;
 use amr_labels::Labels;
@@ -41,18 +41,43 @@ impl Standing {
     }
 }
 
-/// Returns the numbers of the routes that are chosen by these standings.
-fn chosen_numbers(alloc: Global, standings: &[Standing]) -> Result<Vec<usize>, AllocError>
-    ensures { IfOk result (λ indexes. indexes.items
-        ≡ chosen_numbers standings.now (length standings.now)) }
+/// Returns the numbers of the routes that are chosen by these standings. It passes over the routes
+/// below one that isn't open.
+fn chosen_numbers(
+    alloc: Global,
+    config: &Config,
+    standings: &[Standing],
+) -> Result<Vec<usize>, AllocError>
+    requires { length standings.now ≡ length config.now.routes }
+    ensures { IfOk result (λ indexes. AreChosenBy config.now standings.now
+        (length standings.now) indexes.items) }
 {
     let mut indexes = Vec::new(alloc);
-    for (index, standing) in standings.iter().enumerate() {
-        if standing.is_chosen() {
-            indexes.push(index)?;
+    let mut route = 0;
+    while route < standings.len() {
+        if standings[route].is_chosen() {
+            indexes.push(route)?;
         }
+        route = next_to_see(config, standings, route);
     }
     Ok(indexes)
+}
+
+/// Returns the number of the next route that may be chosen: the one after this, or the first that
+/// isn't below it if it isn't open.
+fn next_to_see(config: &Config, standings: &[Standing], route: usize) -> usize
+    requires all { length standings.now ≡ length config.now.routes }
+    requires within { route < length standings.now }
+    ensures within { (route < result) × (result ≤ length standings.now) }
+    ensures none { (labels : LabelSet)
+        → standings.now ≡ standings_at config.now labels (length standings.now)
+        → (m : ℕ) → route < m → m < result → is_open config.now labels m ≡ false }
+{
+    if standings[route].is_open {
+        route + 1
+    } else {
+        config.subtree_end(route)
+    }
 }
 
 /// Returns the standings of all routes.
@@ -162,5 +187,5 @@ pub(crate) fn chosen_routes(
     ensures { IfOk result (λ routes. routes.items ≡ chosen_routes config.now labels.now) }
 {
     let standings = standings(alloc, answers, config, labels)?;
-    chosen_numbers(alloc, standings.as_slice())
+    chosen_numbers(alloc, config, standings.as_slice())
 }
