@@ -5,12 +5,14 @@ ghost use Rattle.std.specs.List.{All};
 ghost use Rattle.amr_labels.specs.Matcher.Patterns.{pattern_matches};
 ghost use Rattle.amr_labels.specs.Matcher.Questions.{IsAnswer};
 
+use crate::Text;
 use crate::matcher::pattern::Pattern;
-use crate::{Text, fnv_hash};
 use std::alloc::{AllocError, Global};
+use std::hash::{FoldHasher, Hasher};
 use std::marker::Model;
+use std::mem;
 
-/// How many buckets for answers there are at first.
+/// How many buckets for answers there are at first. Each number of buckets is a power of two.
 const FEWEST_BUCKETS: usize = 4096;
 
 /// How many buckets there are at most.
@@ -34,6 +36,8 @@ pub(crate) struct CachedMatch {
     pub(crate) value: Text,
     pub(crate) pattern: Text,
     pub(crate) found: bool,
+    /// A hash of the question. Contracts don't see it.
+    hash_value: u32,
 }
 
 impl Model for MatchCache {
@@ -54,12 +58,13 @@ impl MatchCache {
     pub fn matches(&mut self, pattern: &Pattern, value: &str) -> Result<bool, AllocError>
         ensures { IfOk result (λ found. found ≡ pattern_matches pattern.now value.now) }
     {
-        if let Some(found) = self.cached(pattern, value) {
+        let hash_value = question_hash(pattern, value);
+        if let Some(found) = self.cached(pattern, value, hash_value) {
             return Ok(found);
         }
         let found = pattern.matches(self.alloc, value)?;
         // (without memory for it, the answer isn't cached)
-        drop(self.note(pattern, value, found));
+        drop(self.note(pattern, value, hash_value, found));
         Ok(found)
     }
 
@@ -88,18 +93,24 @@ impl MatchCache {
     }
 
     /// Returns the answer to a question, if it is cached.
-    fn cached(&self, pattern: &Pattern, value: &str) -> Option<bool>
+    fn cached(&self, pattern: &Pattern, value: &str, hash_value: u32) -> Option<bool>
         ensures { IfSome result (λ found. found ≡ pattern_matches pattern.now value.now) }
     {
-        let bucket = bucket_of(pattern, value, self.latest.len());
+        let bucket = bucket_of(hash_value, self.latest.len());
         match self.latest.get(bucket) {
-            Some(Some(answer)) if answer.is_to(pattern, value) => Some(answer.found),
+            Some(Some(answer)) if answer.is_to(pattern, value, hash_value) => Some(answer.found),
             _ => None,
         }
     }
 
     /// Caches an answer as the latest one in its bucket.
-    fn note(&mut self, pattern: &Pattern, value: &str, found: bool) -> Result<(), AllocError>
+    fn note(
+        &mut self,
+        pattern: &Pattern,
+        value: &str,
+        hash_value: u32,
+        found: bool,
+    ) -> Result<(), AllocError>
         requires { found ≡ pattern_matches pattern.now value.now }
         ensures { self.new ≡ self.old }
     {
@@ -110,20 +121,15 @@ impl MatchCache {
             value: Text::from_str(self.alloc, value)?,
             pattern: pattern.text().clone()?,
             found,
+            hash_value,
         };
         self.make_buckets()?;
-        let bucket = bucket_of(pattern, value, self.latest.len());
-        if bucket < self.latest.len() {
-            if self.latest[bucket].is_some() {
-                self.replaced = self.replaced.saturating_add(1);
-            }
-            self.latest[bucket] = Some(answer);
-        }
+        self.place(answer);
         Ok(())
     }
 
-    /// Makes the first buckets, or four times as many, which are empty, once as many answers were
-    /// replaced as there are buckets.
+    /// Makes the first buckets, or four times as many once as many answers were replaced as there
+    /// are buckets. The answers move to the new ones.
     fn make_buckets(&mut self) -> Result<(), AllocError>
         ensures { self.new ≡ self.old }
     {
@@ -132,24 +138,61 @@ impl MatchCache {
             return Ok(());
         }
         let more = buckets.saturating_mul(4);
-        self.latest = no_answers(self.alloc, more.clamp(FEWEST_BUCKETS, MOST_BUCKETS))?;
+        let wider = no_answers(self.alloc, more.clamp(FEWEST_BUCKETS, MOST_BUCKETS))?;
+        let answers = mem::replace(&mut self.latest, wider);
         self.replaced = 0;
+        self.place_all(answers);
         Ok(())
+    }
+
+    /// Puts each of these answers into its bucket.
+    fn place_all(&mut self, answers: Vec<Option<CachedMatch>>)
+        requires { All (λ latest. IfSome latest IsAnswer) answers.items }
+        ensures { self.new ≡ self.old }
+    {
+        for answer in answers.into_iter().flatten() {
+            self.place(answer);
+        }
+    }
+
+    /// Puts an answer into its bucket, in place of the one there.
+    fn place(&mut self, answer: CachedMatch)
+        requires { IsAnswer answer }
+        ensures { self.new ≡ self.old }
+    {
+        let bucket = bucket_of(answer.hash_value, self.latest.len());
+        if bucket < self.latest.len() {
+            if self.latest[bucket].is_some() {
+                self.replaced = self.replaced.saturating_add(1);
+            }
+            self.latest[bucket] = Some(answer);
+        }
     }
 }
 
 impl CachedMatch {
-    /// Returns whether the answer is that of a pattern for a value.
-    fn is_to(&self, pattern: &Pattern, value: &str) -> bool
+    /// Returns whether the answer is that of a pattern for a value. It compares texts only if the
+    /// hashes are equal.
+    fn is_to(&self, pattern: &Pattern, value: &str, hash_value: u32) -> bool
         ensures { result ≡ true → (self.now.value ≡ value.now) × (self.now.pattern ≡ pattern.now) }
     {
-        self.value.as_str() == value && self.pattern.as_str() == pattern.text().as_str()
+        self.hash_value == hash_value
+            && self.value.as_str() == value
+            && self.pattern.as_str() == pattern.text().as_str()
     }
 }
 
-/// Returns which of so many buckets has the latest answer to a question.
-fn bucket_of(pattern: &Pattern, value: &str, buckets: usize) -> usize {
-    pattern.hash_value().wrapping_add(fnv_hash(value)) % buckets.max(1)
+/// Returns a hash of a question.
+fn question_hash(pattern: &Pattern, value: &str) -> u32 {
+    let mut hasher = FoldHasher::default();
+    hasher.write_usize(pattern.hash_value());
+    hasher.write(value.as_bytes());
+    (hasher.finish() >> 32) as u32
+}
+
+/// Returns which of so many buckets has the latest answer to the question with this hash.
+fn bucket_of(hash_value: u32, buckets: usize) -> usize {
+    hash_value as usize & buckets.saturating_sub(1)
 }
 
 /// Returns so many buckets, without answers.

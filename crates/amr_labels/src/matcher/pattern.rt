@@ -125,10 +125,10 @@ impl Pattern {
     }
 
     /// Returns whether the pattern matches the whole value.
+    #[tactic(auto, unfolding(crate::specs::Matcher::Searches::IsFoundAs))]
     pub fn matches(&self, alloc: Global, value: &str) -> Result<bool, AllocError>
         ensures { IfOk result (λ found. found ≡ pattern_matches self.now value.now) }
     {
-        let found = self.built.is_match(alloc, value)?;
-        Ok(found)
+        self.built.is_match(alloc, value)
     }
 }
