@@ -12,7 +12,8 @@ use mir.Val.{bool_byte}
 use Rattle.amr_tables.specs.Places.{is_marked}
 use Rattle.amr_tables.specs.declared.grouped.Seat.{Seat}
 use Rattle.amr_tables.specs.declared.grouped.Row.{Row}
-use Rattle.amr_tables.specs.Grouped.{Grouped, home_at, position_at, number_at, count_at, is_seated_in, has_room, Seated, IsSeating, IsIn, AreNumbersOf}
+use Rattle.amr_tables.specs.Grouped.{Grouped, IsIn, AreNumbersOf}
+use Rattle.amr_tables.specs.Seats.{home_at, position_at, number_at, count_at, is_seated_in, has_room, Seated, IsSeating}
 use Rattle.amr_tables.proofs.Seating.{joined, exchanged, set_row, count_set, count_kept, standing, moved, home_moved, position_moved, homes_moved, number_exchanged}
 
 -- ---- lists

@@ -8,7 +8,7 @@ use Rattle.std.proofs.Math.Seq.{map-set_same}
 use Rattle.std.proofs.lemmas.List.{length-set}
 use Rattle.amr_tables.specs.declared.grouped.Seat.{Seat}
 use Rattle.amr_tables.specs.declared.grouped.Row.{Row}
-use Rattle.amr_tables.specs.Grouped.{home_at, position_at, number_at, count_at, Seated, IsSeating}
+use Rattle.amr_tables.specs.Seats.{home_at, position_at, number_at, count_at, Seated, IsSeating}
 
 -- ---- two numbers of a group change places
 

@@ -3,5 +3,6 @@ pub mod Records
 pub mod Numbered
 pub mod Members
 pub mod Grouped
+pub mod Seats
 pub mod Tournament
 pub mod Earliest

@@ -35,7 +35,8 @@ impl Model for Grouped {
     ghost use Rattle.std.specs.Coded.{codes};
     ghost use Rattle.std.specs.Prelude.{map, nat_lt};
     ghost use Rattle.std.specs.Vec.{vec_len, vec_capacity};
-    ghost use Rattle.amr_tables.specs.Grouped.{Grouped, IsSeating, is_seated_in, has_room};
+    ghost use Rattle.amr_tables.specs.Grouped.{Grouped};
+    ghost use Rattle.amr_tables.specs.Seats.{IsSeating, is_seated_in, has_room};
 
     ghost Value = { Grouped };
 

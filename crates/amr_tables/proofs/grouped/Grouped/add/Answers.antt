@@ -5,7 +5,8 @@ use Rattle.std.proofs.lemmas.Option.{get_or_from_slice_get}
 use Rattle.amr_tables.specs.Places.{is_marked}
 use Rattle.amr_tables.specs.declared.grouped.Row.{Row}
 use Rattle.amr_tables.specs.declared.grouped.Seat.{Seat}
-use Rattle.amr_tables.specs.Grouped.{Grouped, IsSeating, is_seated_in, has_room}
+use Rattle.amr_tables.specs.Grouped.{Grouped}
+use Rattle.amr_tables.specs.Seats.{IsSeating, is_seated_in, has_room}
 use Rattle.amr_tables.proofs.Seating.{count_kept}
 use Rattle.amr_tables.proofs.Present.{seating_next, seated_same, absent, room_in}
 use Rattle.amr_tables.proofs.grouped.Grouped.add.Goals as goal

@@ -4,7 +4,8 @@ use Rattle.std.proofs.lemmas.Bool.{true≢false}
 use Rattle.std.proofs.lemmas.Bool.Decides.{nat_tests}
 use Rattle.std.specs.Vec.{vec_len, vec_capacity}
 use Rattle.amr_tables.specs.declared.grouped.Row.{Row}
-use Rattle.amr_tables.specs.Grouped.{Grouped, IsSeating, is_seated_in}
+use Rattle.amr_tables.specs.Grouped.{Grouped}
+use Rattle.amr_tables.specs.Seats.{IsSeating, is_seated_in}
 use Rattle.amr_tables.proofs.Seating.{count_kept}
 use Rattle.amr_tables.proofs.Present.{seating_same, seated_same, row_of, numbers_kept, counted_kept, room_made}
 use Rattle.amr_tables.proofs.grouped.Grouped.reserve.Goals as goal

@@ -1,6 +1,7 @@
 use Rattle.std.proofs.Common.{List, map, refl, subst, sym, ap, ◌∙◌}
 use Rattle.amr_tables.specs.declared.grouped.Row.{Row}
-use Rattle.amr_tables.specs.Grouped.{Grouped, IsSeating, is_seated_in}
+use Rattle.amr_tables.specs.Grouped.{Grouped}
+use Rattle.amr_tables.specs.Seats.{IsSeating, is_seated_in}
 use Rattle.amr_tables.proofs.Present.{seating_same, seated_same, row_more, numbers_more, counted_more}
 use Rattle.amr_tables.proofs.grouped.Grouped.reserve_groups.Goals as goal
 

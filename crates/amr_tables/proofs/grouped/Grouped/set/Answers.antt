@@ -11,7 +11,8 @@ use Rattle.std.proofs.lemmas.Option.{none-some, slice_get-get_or, slice_get_with
 use Rattle.amr_tables.specs.Places.{is_marked}
 use Rattle.amr_tables.specs.declared.grouped.Row.{Row}
 use Rattle.amr_tables.specs.declared.grouped.Seat.{Seat}
-use Rattle.amr_tables.specs.Grouped.{Grouped, IsSeating, is_seated_in}
+use Rattle.amr_tables.specs.Grouped.{Grouped}
+use Rattle.amr_tables.specs.Seats.{IsSeating, is_seated_in}
 use Rattle.amr_tables.proofs.Seating.{group_within, standing, count_kept}
 use Rattle.amr_tables.proofs.Present.{get_map, seated_same, IsEdge, edge_is, edge_within, homes_after, seating_after, present_after}
 use Rattle.amr_tables.proofs.grouped.Grouped.set.Goals as goal
