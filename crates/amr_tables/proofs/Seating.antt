@@ -1,9 +1,9 @@
 -- Numbers that change places with others of their group, and what that changes.
-use Rattle.std.proofs.Common.{◌≡◌, ℕ, suc, zero, ◌<◌, cond, Bool, true, false, Option, Some, None, List, [], ◌∷◌, length, map, slice_set, refl, sym, ap, ◌∙◌, arith}
+use Rattle.std.proofs.Common.{◌≡◌, ℕ, suc, zero, ◌<◌, ◌≤◌, cond, Option, Some, None, List, [], ◌∷◌, length, map, slice_set, refl, sym, ap, ◌∙◌, arith}
 use Rattle.std.specs.Prelude.{◌==◌, slice_get, option_map, option_and_then}
 use Rattle.std.specs.Option.{option_map_or}
 use Rattle.std.proofs.lemmas.Bool.Decides.{nat_tests}
-use Rattle.std.proofs.lemmas.Option.{none-some, slice_get_within, get_or_from_slice_get}
+use Rattle.std.proofs.lemmas.Option.{same_Some, slice_get_within, get_or_from_slice_get, option_and_then_some}
 use Rattle.std.proofs.Math.Seq.{map-set_same}
 use Rattle.std.proofs.lemmas.List.{length-set}
 use Rattle.amr_tables.specs.declared.grouped.Seat.{Seat}
@@ -42,10 +42,7 @@ get_set [] n x h k = absurd (omega arith)
 get_set (y ∷ xs) zero x h zero = refl
 get_set (y ∷ xs) zero x h (suc k) = grind (arith, nat_tests)
 get_set (y ∷ xs) (suc n) x h zero = grind (arith, nat_tests)
-get_set (y ∷ xs) (suc n) x h (suc k) = get_set xs n x (omega arith) k ∙ ap (λ b. cond b (Some x) (slice_get xs k)) (same_test k n)
-  where
-    same_test : (k n : ℕ) → (k == n) ≡ (suc k == suc n)
-    same_test k n = grind (arith, nat_tests)
+get_set (y ∷ xs) (suc n) x h (suc k) = let rest = get_set xs n x (omega arith) k in grind (arith, nat_tests, rest)
 
 -- ---- a number gets another position
 
@@ -57,18 +54,10 @@ module _ (seats : List Seat) (n : ℕ) (seat : Seat) (is : slice_get seats n ≡
   set_moved = get_set seats n (record { group = seat.group; position = q }) (slice_get_within seats n seat is)
 
   pub home_moved : (k : ℕ) → home_at moved k ≡ home_at seats k
-  home_moved k = ap (option_map (λ (s : Seat). s.group)) (set_moved k) ∙ by (k == n) refl
-    where
-      by : (b : Bool) → (k == n) ≡ b → option_map (λ (s : Seat). s.group) (cond b (Some (record { group = seat.group; position = q })) (slice_get seats k)) ≡ home_at seats k
-      by true same = let e : k ≡ n = grind (arith, nat_tests) in ap (option_map (λ (s : Seat). s.group)) (sym is ∙ ap (slice_get seats) (sym e))
-      by false apart = refl
+  home_moved k = grind (arith, nat_tests, set_moved k, is)
 
   pub position_moved : (k : ℕ) → position_at moved k ≡ cond (k == n) q (position_at seats k)
-  position_moved k = ap (λ s. option_map_or (λ (s : Seat). s.position) s 0) (set_moved k) ∙ by (k == n)
-    where
-      by : (b : Bool) → option_map_or (λ (s : Seat). s.position) (cond b (Some (record { group = seat.group; position = q })) (slice_get seats k)) 0 ≡ cond b q (position_at seats k)
-      by true = refl
-      by false = refl
+  position_moved k = grind (arith, nat_tests, set_moved k)
 
   pub homes_moved : map (λ (s : Seat). s.group) moved ≡ map (λ (s : Seat). s.group) seats
   homes_moved = map-set_same (λ (s : Seat). s.group) seats n (record { group = seat.group; position = q }) seat (sym (ap (λ (s : Seat). s.group) (get_or_from_slice_get seats n seat seat is)))
@@ -80,44 +69,29 @@ module _ (rows : List Row) (g : ℕ) (row changed : Row) (is : slice_get rows g 
   set_row = get_set rows g changed (slice_get_within rows g row is)
 
   pub count_set : (h : ℕ) → count_at (slice_set rows g changed) h ≡ cond (h == g) changed.count (count_at rows h)
-  count_set h = ap (λ r. option_map_or (λ (r : Row). r.count) r 0) (set_row h) ∙ by (h == g)
-    where
-      by : (b : Bool) → option_map_or (λ (r : Row). r.count) (cond b (Some changed) (slice_get rows h)) 0 ≡ cond b changed.count (count_at rows h)
-      by true = refl
-      by false = refl
+  count_set h = grind (arith, nat_tests, set_row h)
 
   pub count_kept : changed.count ≡ row.count → (h : ℕ) → count_at (slice_set rows g changed) h ≡ count_at rows h
-  count_kept same h = count_set h ∙ by (h == g) refl
-    where
-      by : (b : Bool) → (h == g) ≡ b → cond b changed.count (count_at rows h) ≡ count_at rows h
-      by true e = let here : h ≡ g = grind (arith, nat_tests) in same ∙ ap (λ r. option_map_or (λ (r : Row). r.count) r 0) (sym is ∙ ap (slice_get rows) (sym here))
-      by false e = refl
+  count_kept same h = grind (arith, nat_tests, set_row h, is, same)
+
+  pub counted_set : changed.count ≤ length changed.numbers.items → ((h : ℕ) (r : Row) → slice_get rows h ≡ Some r → r.count ≤ length r.numbers.items) → (h : ℕ) (r : Row) → slice_get (slice_set rows g changed) h ≡ Some r → r.count ≤ length r.numbers.items
+  counted_set most counted h r at = let old = counted h r in grind (arith, nat_tests, set_row h, at, old, same_Some changed r, most)
 
   module _ (p q n m : ℕ) (items : changed.numbers.items ≡ slice_set (slice_set row.numbers.items p m) q n) (in_p : p < length row.numbers.items) (in_q : q < length row.numbers.items) where
     pub number_exchanged : (h i : ℕ) → number_at (slice_set rows g changed) h i ≡ cond (h == g) (cond (i == q) (Some n) (cond (i == p) (Some m) (number_at rows h i))) (number_at rows h i)
-    number_exchanged h i = ap (option_and_then (λ (r : Row). slice_get r.numbers.items i)) (set_row h) ∙ by (h == g) refl
-      where
-        by : (b : Bool) → (h == g) ≡ b → option_and_then (λ (r : Row). slice_get r.numbers.items i) (cond b (Some changed) (slice_get rows h)) ≡ cond b (cond (i == q) (Some n) (cond (i == p) (Some m) (number_at rows h i))) (number_at rows h i)
-        by true e =
-            let here : h ≡ g = grind (arith, nat_tests) in
-            let own : slice_get row.numbers.items i ≡ number_at rows h i = ap (option_and_then (λ (r : Row). slice_get r.numbers.items i)) (sym is ∙ ap (slice_get rows) (sym here)) in
-            ap (λ l. slice_get l i) items
-            ∙ get_set (slice_set row.numbers.items p m) q n (omega (arith, in_q, length-set row.numbers.items p m)) i
-            ∙ ap (cond (i == q) (Some n)) (get_set row.numbers.items p m in_p i ∙ ap (cond (i == p) (Some m)) own)
-        by false e = refl
+    number_exchanged h i =
+        let first = get_set row.numbers.items p m in_p i in
+        let second = get_set (slice_set row.numbers.items p m) q n (omega (arith, in_q, length-set row.numbers.items p m)) i in
+        grind (arith, nat_tests, set_row h, is, items, first, second)
 
 -- ---- a number stands in its group
 
-module _ (seats : List Seat) (rows : List Row) (is : IsSeating seats rows) (n : ℕ) (seat : Seat) (at : slice_get seats n ≡ Some seat) where
+module _ {seats : List Seat} {rows : List Row} (is : IsSeating seats rows) (n : ℕ) {seat : Seat} (at : slice_get seats n ≡ Some seat) where
   here : number_at rows seat.group seat.position ≡ Some n
   here = ap (number_at rows seat.group) (sym (ap (λ s. option_map_or (λ (s : Seat). s.position) s 0) at)) ∙ is.seated.there n seat.group (ap (option_map (λ (s : Seat). s.group)) at)
 
   pub group_within : seat.group < length rows
-  group_within = by (slice_get rows seat.group) refl here
-    where
-      by : (r : Option Row) → slice_get rows seat.group ≡ r → option_and_then (λ (row : Row). slice_get row.numbers.items seat.position) r ≡ Some n → seat.group < length rows
-      by None e h = absurd (none-some n h)
-      by (Some row) e h = slice_get_within rows seat.group row e
+  group_within = option_and_then_some (λ (row : Row). slice_get row.numbers.items seat.position) (slice_get rows seat.group) n here (λ row found at. slice_get_within rows seat.group row found)
 
-  pub standing : (row : Row) → slice_get rows seat.group ≡ Some row → seat.position < length row.numbers.items
-  standing row found = slice_get_within row.numbers.items seat.position n (sym (ap (option_and_then (λ (r : Row). slice_get r.numbers.items seat.position)) found) ∙ here)
+  pub standing : {row : Row} → slice_get rows seat.group ≡ Some row → seat.position < length row.numbers.items
+  standing {row} found = slice_get_within row.numbers.items seat.position n (sym (ap (option_and_then (λ (r : Row). slice_get r.numbers.items seat.position)) found) ∙ here)

@@ -5,9 +5,8 @@ use Rattle.amr_tables.proofs.grouped.Grouped.numbers_of.Goals as goal
 
 pub returns : goal.returns
 returns c =
-    let rows = c.self.inside.rows.items in
     let g = c.args.group in
     let row = c.index-row.result.now in
+    let found = row_of c.args.self.now c.self.inside.rows.items _ g row (ap (λ (t : Grouped). t.rooms) c.self.view_is) c.requires c.index-row.ensures in
     subst (λ l. AreNumbersOf c.args.self.now g (take row.count l)) (sym c.as_slice.ensures.value)
-    (front_are c.args.self.now c.self.inside.seats.items rows c.self.invariant g row (row_of c.args.self.now rows _ g row (ap (λ (t : Grouped). t.rooms) c.self.view_is) c.requires c.index-row.ensures)
-    (ap (λ (t : Grouped). t.homes) c.self.view_is) (ap (λ (t : Grouped). t.present) c.self.view_is))
+    (front_are c.args.self.now c.self.invariant g found (ap (λ (t : Grouped). t.homes) c.self.view_is) (ap (λ (t : Grouped). t.present) c.self.view_is))

@@ -1,52 +1,38 @@
-use Rattle.std.proofs.Common.{◌≡◌, ℕ, ◌+◌, ◌≤◌, ◌&&◌, nat_lt, Bool, true, false, Result, Ok, Err, OnOk, Some, map, slice_set, refl, sym, ap, subst, ◌∙◌, arith}
+use Rattle.std.proofs.Common.{◌≡◌, ℕ, ◌+◌, ◌≤◌, ◌&&◌, nat_lt, true, Some, length, map, slice_set, refl, sym, ap, subst, ◌∙◌, arith}
 use Rattle.std.specs.Prelude.{slice_get}
-use Rattle.std.proofs.lemmas.Bool.{true≢false}
 use Rattle.std.proofs.lemmas.Bool.Decides.{nat_tests}
-use Rattle.std.specs.Vec.{vec_len, vec_capacity}
+use Rattle.std.proofs.lemmas.Result.{on_ok_weaker}
 use Rattle.amr_tables.specs.declared.grouped.Row.{Row}
 use Rattle.amr_tables.specs.Grouped.{Grouped}
 use Rattle.amr_tables.specs.Seats.{IsSeating, is_seated_in}
-use Rattle.amr_tables.proofs.Seating.{count_kept}
-use Rattle.amr_tables.proofs.Present.{seating_same, seated_same, row_of, numbers_kept, counted_kept, room_made}
+use Rattle.amr_tables.proofs.Seating.{count_kept, counted_set}
+use Rattle.amr_tables.proofs.Present.{seating_same, seated_same, row_of, numbers_kept, room_made}
 use Rattle.amr_tables.proofs.grouped.Grouped.reserve.Goals as goal
+
+-- the row of the group afterwards
+abbrev changed : goal.After-self-1 → Row
+changed c = record { numbers = c.reserve-2.new.self; count = c.index_mut.result.now.count }
+
+-- and before
+found : (c : goal.After-self-1) → slice_get c.self.inside.rows.items c.args.group ≡ Some c.index_mut.result.now
+found c = row_of c.args.self.now c.self.inside.rows.items _ c.args.group c.index_mut.result.now (ap (λ (t : Grouped). t.rooms) c.self.view_is) c.requires c.index_mut.ensures.value
 
 pub invariant_of-self-2 : goal.invariant_of-self-2
 invariant_of-self-2 c =
     let rows = c.self.inside.rows.items in
-    let g = c.args.group in
-    let row = c.index_mut.result.now in
-    let changed : Row = record { numbers = c.reserve-2.new.self; count = row.count } in
-    let found : slice_get rows g ≡ Some row = row_of c.args.self.now rows _ g row (ap (λ (t : Grouped). t.rooms) c.self.view_is) c.requires c.index_mut.ensures.value in
-    subst (λ seats. IsSeating seats (slice_set rows g changed)) (sym c.in_ok-reserve.ensures.items)
-    (seating_same c.self.inside.seats.items rows _ (numbers_kept rows g row changed found c.reserve-2.ensures.items) (counted_kept rows g row changed found c.reserve-2.ensures.items (c.self.invariant.counted g row found) c.self.invariant.counted) c.self.invariant)
+    let items = c.reserve-2.ensures.items in
+    subst (λ seats. IsSeating seats (slice_set rows c.args.group (changed c))) (sym c.in_ok-reserve.ensures.items)
+    (seating_same rows _ (numbers_kept _ _ _ _ (found c) items) (counted_set rows _ _ (changed c) (found c) (omega (arith, c.self.invariant.counted _ _ (found c), ap length items)) c.self.invariant.counted) c.self.invariant)
 
 pub returns-clause-room : goal.returns-clause-room
 returns-clause-room c =
-    let rows = c.self.inside.rows.items in
-    let g = c.args.group in
-    let row = c.index_mut.result.now in
-    let changed : Row = record { numbers = c.reserve-2.new.self; count = row.count } in
-    let found : slice_get rows g ≡ Some row = row_of c.args.self.now rows _ g row (ap (λ (t : Grouped). t.rooms) c.self.view_is) c.requires c.index_mut.ensures.value in
-    on_ok c.reserve-2.result (λ room. room_made rows g row changed found (nat_lt (vec_len c.reserve.new.self) (vec_capacity c.reserve.new.self)) (both _ _ (less _ _ c.in_ok-reserve.ensures.ok) (less _ _ room))) c.reserve-2.ensures.ok
+    on_ok_weaker c.reserve-2.result (λ room. room_made c.self.inside.rows.items c.args.group _ (changed c) (found c) _ (both _ _ _ _ c.in_ok-reserve.ensures.ok room)) c.reserve-2.ensures.ok
   where
-    on_ok : {E P Q : Type 0} (r : Result (Unit {0}) E) → (P → Q) → OnOk r P → OnOk r Q
-    on_ok (Ok x) f p = f p
-    on_ok (Err e) f p = p
-
-    less : (a b : ℕ) → a + 1 ≤ b → nat_lt a b ≡ true
-    less a b h = grind (arith, nat_tests, h)
-
-    both : (a b : Bool) → a ≡ true → b ≡ true → (a && b) ≡ true
-    both true b e f = f
-    both false b e f = absurd (true≢false (sym e))
+    both : (a b d e : ℕ) → a + 1 ≤ b → d + 1 ≤ e → (nat_lt a b && nat_lt d e) ≡ true
+    both a b d e h k = grind (arith, nat_tests, h, k)
 
 pub returns-clause-present : goal.returns-clause-present
 returns-clause-present c =
-    let rows = c.self.inside.rows.items in
-    let g = c.args.group in
-    let row = c.index_mut.result.now in
-    let changed : Row = record { numbers = c.reserve-2.new.self; count = row.count } in
-    let found : slice_get rows g ≡ Some row = row_of c.args.self.now rows _ g row (ap (λ (t : Grouped). t.rooms) c.self.view_is) c.requires c.index_mut.ensures.value in
-    ap (map (is_seated_in (slice_set rows g changed))) c.in_ok-reserve.ensures.items
-    ∙ ap (λ f. map f c.self.inside.seats.items) (seated_same c.self.inside.seats.items rows _ (count_kept rows g row changed found refl))
+    ap (map (is_seated_in (slice_set c.self.inside.rows.items c.args.group (changed c)))) c.in_ok-reserve.ensures.items
+    ∙ ap (λ f. map f c.self.inside.seats.items) (seated_same c.self.inside.rows.items _ (count_kept _ _ _ (changed c) (found c) refl))
     ∙ ap (λ (t : Grouped). t.present) c.self.view_is

@@ -7,17 +7,13 @@ use Rattle.amr_tables.proofs.grouped.Grouped.reserve_groups.Goals as goal
 
 pub invariant_of-self-2 : goal.invariant_of-self-2
 invariant_of-self-2 c =
-    let seats = c.self.inside.seats.items in
     let rows = c.self.inside.rows.items in
-    let row : Row = record { numbers = c.new.result; count = 0 } in
-    subst (IsSeating seats) (sym c.in_ok-push.ensures.items)
-    (seating_same seats rows _ (numbers_more rows row c.new.ensures.items refl) (counted_more rows row c.new.ensures.items refl c.self.invariant.counted) c.self.invariant)
+    subst (IsSeating c.self.inside.seats.items) (sym c.in_ok-push.ensures.items)
+    (seating_same rows _ (numbers_more rows _ c.new.ensures.items refl) (counted_more rows _ c.new.ensures.items refl c.self.invariant.counted) c.self.invariant)
 
 pub returns-clause-present : goal.returns-clause-present
 returns-clause-present c =
-    let seats = c.self.inside.seats.items in
     let rows = c.self.inside.rows.items in
-    let row : Row = record { numbers = c.new.result; count = 0 } in
-    ap (λ (rows : List Row). map (is_seated_in rows) seats) c.in_ok-push.ensures.items
-    ∙ ap (λ f. map f seats) (seated_same seats rows _ (row_more rows row c.new.ensures.items refl))
+    ap (λ (rows : List Row). map (is_seated_in rows) c.self.inside.seats.items) c.in_ok-push.ensures.items
+    ∙ ap (λ f. map f c.self.inside.seats.items) (seated_same rows _ (row_more rows _ c.new.ensures.items refl))
     ∙ ap (λ (g : Grouped). g.present) c.self.view_is
