@@ -2,6 +2,7 @@ pub mod Alike
 pub mod Chosen
 pub mod Found
 pub mod Inherited
+pub mod Kept
 pub mod Lines
 pub mod OwnPaths
 pub mod PassingOver

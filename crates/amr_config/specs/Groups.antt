@@ -1,13 +1,15 @@
 -- The groups that take an alert.
-use Rattle.std.specs.Prelude.{◌≡◌, ℕ, List, Option, Some, IfSome, map}
-use Rattle.std.specs.List.{All}
-use Rattle.amr_labels.specs.Labels.{LabelSet, label_set_cmp}
+use Rattle.std.specs.Prelude.{◌≡◌, ℕ, Bool, true, false, List, Option, None, Some, IfSome, map}
+use Rattle.std.specs.List.{All, list_any}
+use Rattle.std.specs.Ordering.{eq_by_cmp}
+use Rattle.amr_labels.specs.Labels.{Text, text_cmp, LabelSet, label_set_cmp}
 use Rattle.amr_labels.specs.Map.{Map, get}
-use Rattle.amr_tables.specs.Numbered.{Numbered, map_of}
 use Rattle.amr_config.specs.declared.router.CachedRouting.{CachedRouting}
 use Rattle.amr_config.specs.declared.route_labels.RouteLabels.{RouteLabels}
 use Rattle.amr_config.specs.Stated.Config.{Config}
 use Rattle.amr_config.specs.Routing.{chosen_routes, group_of}
+use Rattle.amr_config.specs.declared.stated.route.Grouping.{Grouping}
+use Rattle.amr_config.specs.declared.stated.route.Grouping.TheVariants.{AllLabels, Named}
 use Rattle.amr_config.specs.declared.stated.rule_sides.RuleMatch.{RuleMatch}
 use Rattle.amr_config.specs.Stated.RuleMatches.{rule_matches}
 
@@ -30,14 +32,12 @@ IsRoutingOf config place = IfSome place (λ cached. cached ≡ routing_to_cache 
 abbrev pub IsCacheOf : Config → List (Option CachedRouting) → Type 0
 IsCacheOf config cache = All (IsRoutingOf config) cache
 
--- what is cached of each label set is this answer
-abbrev pub CachesOnly : {X : Type 0} → (LabelSet → X) → Numbered LabelSet X → Type 0
-CachesOnly answer cache = (labels : LabelSet) (found : _) → get (map_of label_set_cmp cache) labels ≡ Some found → found ≡ answer labels
-
 -- what is cached of a label set are the sides of the rules that it is on
 abbrev pub AreSides : Config → Map label_set_cmp (List RuleMatch) → Type 0
 AreSides config sides = (labels : LabelSet) (found : _) → get sides labels ≡ Some found → found ≡ rule_matches labels config.rules
 
--- group labels are kept under themselves
-abbrev pub AreUnderThemselves : Numbered LabelSet LabelSet → Type 0
-AreUnderThemselves kept = CachesOnly (λ labels. labels) kept
+-- the grouping keeps labels with this name
+abbrev pub keeps : Option Grouping → Text → Bool
+keeps None name = false
+keeps (Some AllLabels) name = true
+keeps (Some (Named names)) name = list_any (eq_by_cmp text_cmp name) names

@@ -9,7 +9,7 @@ ghost use Rattle.std.specs.List.{find, list_any};
 ghost use Rattle.amr_labels.specs.Labels.{text_cmp};
 ghost use Rattle.amr_config.specs.Intervals.{interval_at, interval_named};
 ghost use Rattle.amr_config.specs.Receivers.{receiver_at, receiver_named};
-ghost use Rattle.amr_config.specs.Routing.{group_wait_of, group_interval_of, repeat_interval_of, receiver_name_of, integrations_of, path_of, HasOwnPath, group_of, grouped_by, is_within, is_active_at, is_muted_at};
+ghost use Rattle.amr_config.specs.Routing.{group_wait_of, group_interval_of, repeat_interval_of, receiver_name_of, integrations_of, path_of, HasOwnPath, inherited_value, group_of, grouped_by, is_within, is_active_at, is_muted_at};
 ghost use Rattle.amr_config.specs.RuleNames.{kept_for};
 ghost use Rattle.amr_config.specs.Settled.{settings_of, stated_config, AreParentsFirst};
 ghost use Rattle.amr_config.specs.Subtrees.{IsSubtreeEnd};
@@ -248,8 +248,17 @@ impl Config {
         }
     }
 
-    /// Returns the group labels of an alert at the route (`group_by`).
-    #[tactic(auto, using(crate::proofs::Inherited::inherited_past), unfolding(crate::specs::Settled::settings_of, crate::specs::Routing::group_of))]
+    /// Returns how the route groups alerts (`group_by`).
+    #[tactic(auto, using(crate::proofs::Inherited::inherited_past), unfolding(crate::specs::Settled::settings_of))]
+    pub(crate) fn grouping(&self, route: usize) -> Option<&Grouping>
+        ensures { option_copied result
+            ≡ inherited_value (λ route. route.group_by) self.now route }
+    {
+        self.settings_at(route)?.group_by.as_ref()
+    }
+
+    /// Returns the group labels of an alert at the route.
+    #[tactic(auto, unfolding(crate::specs::Routing::group_of))]
     pub fn group_of(
         &self,
         alloc: Global,
@@ -258,10 +267,7 @@ impl Config {
     ) -> Result<Labels, AllocError>
         ensures { IfOk result (λ group. group ≡ group_of self.now route labels.now) }
     {
-        match self.settings_at(route) {
-            Some(settings) => grouped_by(alloc, &settings.group_by, labels),
-            None => Labels::empty(alloc),
-        }
+        grouped_by(alloc, self.grouping(route), labels)
     }
 
     /// Returns the receiver with a name.
@@ -390,12 +396,13 @@ fn receiver_named<'a>(receivers: &'a [Receiver], name: &str) -> Option<&'a Recei
 }
 
 /// Returns the labels that a grouping keeps.
-fn grouped_by(
+pub(crate) fn grouped_by(
     alloc: Global,
-    grouping: &Option<Grouping>,
+    grouping: Option<&Grouping>,
     labels: &Labels,
 ) -> Result<Labels, AllocError>
-    ensures { IfOk result (λ group. group ≡ grouped_by grouping.now labels.now) }
+    ensures { IfOk result (λ group.
+        group ≡ grouped_by (option_copied grouping.entry) labels.now) }
 {
     match grouping {
         None => Labels::empty(alloc),

@@ -269,6 +269,7 @@ fn groups_of(
 }
 
 /// Works out the group of an alert with these labels at a route. Equal groups share their labels.
+#[tactic(auto, unfolding(crate::specs::Routing::group_of))]
 fn group_at(
     alloc: Global,
     config: &Config,
@@ -278,9 +279,9 @@ fn group_at(
 ) -> Result<RouteLabels, AllocError>
     ensures { IfOk result (λ group. group ≡ group_at config.now labels.now route) }
 {
-    let made = config.group_of(alloc, route, labels)?;
+    let grouping = config.grouping(route);
     Ok(RouteLabels {
         route,
-        labels: group_labels.share(made)?,
+        labels: group_labels.grouped_by(alloc, grouping, labels)?,
     })
 }
