@@ -12,7 +12,7 @@ use crate::stated::Grouping;
 use amr_labels::{Labels, Text};
 use std::alloc::{AllocError, Global};
 use std::collections::HashMap;
-use std::hash::{DefaultHasher, Hasher};
+use std::hash::{FoldHasher, Hash, Hasher};
 use std::marker::Model;
 
 /// Group labels, by the hashes of their names and values. Contracts see nothing of them.
@@ -95,13 +95,9 @@ fn keeps(grouping: Option<&Grouping>, name: &Text) -> bool
     }
 }
 
-/// Returns a hash of names and values, SipHash-1-3 with both keys zero. Nobody knows how to write
-/// many label sets with one hash but by trying.
+/// Returns a hash of names and values.
 fn hash_of_texts(kept: &[(&str, &str)]) -> u64 {
-    let mut hasher = DefaultHasher::new();
-    for (name, value) in kept {
-        hasher.write(name.as_bytes());
-        hasher.write(value.as_bytes());
-    }
+    let mut hasher = FoldHasher::default();
+    kept.hash(&mut hasher);
     hasher.finish()
 }

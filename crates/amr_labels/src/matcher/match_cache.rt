@@ -199,7 +199,7 @@ fn bucket_of(hash_value: u32, buckets: usize) -> usize {
 fn no_answers(alloc: Global, buckets: usize) -> Result<Vec<Option<CachedMatch>>, AllocError>
     ensures { IfOk result (λ none. All (λ latest. IfSome latest IsAnswer) none.items) }
 {
-    let mut none = Vec::new(alloc);
+    let mut none = Vec::with_capacity(alloc, buckets)?;
     for _bucket in 0..buckets {
         none.push(None)?;
     }

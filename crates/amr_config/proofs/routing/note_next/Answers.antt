@@ -1,5 +1,4 @@
-use Rattle.std.proofs.Common.{◌+◌, ◌++◌, ◌∷◌, [], sym, ap, subst, ◌∙◌}
-use Rattle.amr_config.specs.Routing.{parent_of}
+use Rattle.std.proofs.Common.{◌+◌, ◌++◌, ◌∷◌, [], sym, ap, ◌∙◌}
 use Rattle.amr_config.specs.Standings.{standings_at}
 use Rattle.amr_config.proofs.Chosen.{root_step, matches_is, parent_is}
 use Rattle.amr_config.proofs.PassingOver.{one_more}

@@ -1,8 +1,6 @@
-use Rattle.std.proofs.Common.{◌≡◌, ◌∙◌, ◌++◌, ◌-◌, if◌then◌else◌, List, take, replicate, vec_len, sym, ap, subst}
-use Rattle.amr_config.specs.declared.routing.Standing.{Standing}
+use Rattle.std.proofs.Common.{◌≡◌, ◌∙◌, ◌++◌, ◌-◌, if◌then◌else◌, take, replicate, vec_len, sym, ap, subst}
 use Rattle.amr_config.specs.Standings.{IsMoreSeen}
 use Rattle.amr_config.specs.Subtrees.{IsSubtreeEnd}
-use Rattle.amr_config.proofs.Chosen.{standing}
 use Rattle.amr_config.proofs.PassingOver.{passed_over, shut, without_error}
 use Rattle.amr_config.proofs.routing.pass_over.Goals as goal
 

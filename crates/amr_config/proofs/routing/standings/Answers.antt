@@ -1,4 +1,4 @@
-use Rattle.std.proofs.Common.{◌≡◌, [], ◌∙◌, sym, ap, arith}
+use Rattle.std.proofs.Common.{◌∙◌, sym, ap, arith}
 use Rattle.amr_config.specs.Standings.{standings_at}
 use Rattle.amr_config.proofs.routing.standings.Goals as goal
 
