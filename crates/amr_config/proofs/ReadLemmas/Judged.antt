@@ -1,5 +1,5 @@
 -- Parts of a reading: what is read states what is there, a refusal is that of the first fault, and the patterns that are met are those before it.
-use Rattle.std.proofs.Common.{◌≡◌, ℕ, ◌+◌, Bool, true, false, if◌then◌else◌, List, [], ◌∷◌, ◌++◌, Option, Some, None, Result, Ok, Err, refl, sym, ap, subst, ◌∙◌, append_assoc}
+use Rattle.std.proofs.Common.{◌≡◌, ℕ, ◌+◌, Bool, true, false, not, if◌then◌else◌, List, [], ◌∷◌, ◌++◌, Option, Some, None, Result, Ok, Err, refl, sym, ap, subst, ◌∙◌, append_assoc}
 use Rattle.std.proofs.lemmas.List.{append-nil}
 use Rattle.serde_json.specs.Data.{Data, Items, no_items, item}
 use Rattle.serde_json.specs.Find.{as_str, as_bool, as_array, as_object}
@@ -9,7 +9,7 @@ use Rattle.amr_config.specs.declared.read.error.Refusal.TheVariants.{BadConfig}
 use Rattle.amr_config.specs.Read.Paths.{under, item_path}
 use Rattle.amr_config.specs.Read.Members.{member_of, optional, required_value, optional_member, required_member, or_faulty, text_at, flag_at, items_at, members_at}
 use Rattle.amr_config.specs.Read.Readings.{Reading, give, faulty, next, value_after, patterns_after, items_in_turn}
-use Rattle.amr_config.specs.Read.Table.{IsText, IsFlag, StatesEach, StatesIf, States, HasAt}
+use Rattle.amr_config.specs.Read.Table.{IsText, IsFlag, IsListOf, StatesEach, StatesIf, States, HasAt}
 use Rattle.amr_config.specs.Read.Faults.{Finding, Fault, Pattern, first_fault, patterns_before, unless_some, unless, text_found, flag_found, object_found, each_found, items_found, list_found, if_there, at, if_there_or, needed_at}
 
 -- ---- findings one after another
@@ -114,6 +114,10 @@ pub judged_if : {A : Type 0} (b : Bool) (x : A) (path : List ℕ) (P : A → Typ
 judged_if true x path P h = judged_ok x P (h refl)
 judged_if false x path P h = judged_fault path P
 
+pub judged_unless : {A : Type 0} (b : Bool) (x : A) (path : List ℕ) (P : A → Type 0) → P x → Judged (if b then faulty path else give x) (unless path (not b)) P
+judged_unless true x path P p = judged_fault path P
+judged_unless false x path P p = judged_ok x P p
+
 -- ---- members
 
 pub judged_optional : {A : Type 0} (reads : Data → Reading A) (found : Data → List Finding) (Is : Data → A → Type 0) (o : Option Data) → ((d : Data) → Judged (reads d) (found d) (Is d)) → Judged (optional reads o) (if_there found o) (StatesIf Is o)
@@ -141,14 +145,15 @@ judged_flag path d = judged_or_faulty path (as_bool d) (IsFlag d) (λ x is. is)
 pub judged_object : (path : List ℕ) (d : Data) → Judged (members_at path d) (object_found path d) (λ ms. as_object d ≡ Some ms)
 judged_object path d = judged_or_faulty path (as_object d) (λ ms. as_object d ≡ Some ms) (λ x is. is)
 
+-- a part that may be missing, and then what is made of it
+pub judged_there : {A B : Type 0} (path : List ℕ) (o : Option A) (rest : A → Reading B) (found : Option A → List Finding) (Q : B → Type 0) → found None ≡ Fault path ∷ [] → ((x : A) → o ≡ Some x → Judged (rest x) (found (Some x)) Q) → Judged (next (or_faulty path o) rest) (found o) Q
+unfolding next
+judged_there path None rest found Q none h = by_findings _ (Fault path ∷ []) (found None) Q (sym none) (judged_fault path Q)
+judged_there path (Some x) rest found Q none h = h x refl
+
 -- a text, and then what its reader makes of it
 pub judged_spelled : {A : Type 0} (rest : Text → Reading A) (found : Option Text → List Finding) (path : List ℕ) (d : Data) (Q : A → Type 0) → found None ≡ Fault path ∷ [] → ((text : Text) → IsText d text → Judged (rest text) (found (Some text)) Q) → Judged (next (text_at path d) rest) (found (as_str d)) Q
-unfolding next
-judged_spelled rest found path d Q none h = go (as_str d) refl
-  where
-    go : (o : Option Text) → as_str d ≡ o → Judged (next (or_faulty path o) rest) (found o) Q
-    go None is = by_findings _ (Fault path ∷ []) (found None) Q (sym none) (judged_fault path Q)
-    go (Some text) is = h text is
+judged_spelled rest found path d Q none h = judged_there path (as_str d) rest found Q none h
 
 -- ---- lists
 
@@ -175,12 +180,7 @@ judged_each f found path Step All none more i (item d ds) a h =
 
 -- the items of a list
 pub judged_items : {A : Type 0} (rest : Items → Reading A) (found : Option Items → List Finding) (path : List ℕ) (d : Data) (Q : A → Type 0) → found None ≡ Fault path ∷ [] → ((ds : Items) → as_array d ≡ Some ds → Judged (rest ds) (found (Some ds)) Q) → Judged (next (items_at path d) rest) (found (as_array d)) Q
-unfolding next
-judged_items rest found path d Q none h = go (as_array d) refl
-  where
-    go : (o : Option Items) → as_array d ≡ o → Judged (next (or_faulty path o) rest) (found o) Q
-    go None is = by_findings _ (Fault path ∷ []) (found None) Q (sym none) (judged_fault path Q)
-    go (Some ds) is = h ds is
+judged_items rest found path d Q none h = judged_there path (as_array d) rest found Q none h
 
 -- a list whose items are added one after another
 pub judged_list : {B : Type 0} (f : ℕ → Data → List B → Reading (List B)) (found : List ℕ → Data → List Finding) (path : List ℕ) (d : Data) (Is : ℕ → Data → B → Type 0) → ((i : ℕ) (d : Data) (before : List B) → Judged (f i d before) (found (item_path path i) d) (Adds Is i d before)) → Judged (next (items_at path d) (λ ds. items_in_turn f 0 ds [])) (list_found found path d) (λ xs. (ds : Items) × (as_array d ≡ Some ds) × StatesEach Is 0 ds xs)
@@ -191,3 +191,8 @@ judged_list f found path d Is h =
 -- an item that is read, and added
 pub judged_added : {B : Type 0} (read : Reading B) (fs : List Finding) (Is : ℕ → Data → B → Type 0) (i : ℕ) (d : Data) (before : List B) → Judged read fs (Is i d) → Judged (next read (λ x. give (before ++ x ∷ []))) fs (Adds Is i d before)
 judged_added read fs Is i d before h = judged_map read (λ x. before ++ x ∷ []) fs (Is i d) (Adds Is i d before) h (λ x is. (x, refl, is))
+
+-- a list whose items are read one by one
+pub judged_list_of : {B : Type 0} (read : List ℕ → Data → Reading B) (found : List ℕ → Data → List Finding) (Is : Data → B → Type 0) → ((path : List ℕ) (d : Data) → Judged (read path d) (found path d) (Is d)) → (path : List ℕ) (d : Data) → Judged (next (items_at path d) (λ ds. items_in_turn (λ i d before. next (read (item_path path i) d) (λ x. give (before ++ x ∷ []))) 0 ds [])) (list_found found path d) (IsListOf Is d)
+judged_list_of read found Is h path d =
+    judged_list (λ i d before. next (read (item_path path i) d) (λ x. give (before ++ x ∷ []))) found path d (λ i. Is) (λ i d before. judged_added (read (item_path path i) d) (found (item_path path i) d) (λ i. Is) i d before (h (item_path path i) d))

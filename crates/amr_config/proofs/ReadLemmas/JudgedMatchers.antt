@@ -12,15 +12,14 @@ use Rattle.amr_labels.specs.Matcher.Matchers.{Matcher, takes_pattern}
 use Rattle.amr_labels.specs.Matcher.MatcherReading.{matchers_of}
 use Rattle.amr_labels.specs.declared.matcher.Operator.{Operator}
 use Rattle.amr_labels.specs.declared.matcher.Operator.TheVariants.{Equal, Matches}
-use Rattle.amr_config.specs.declared.stated.rule.InhibitRule.{InhibitRule}
 use Rattle.amr_config.specs.Read.Paths.{under, item_path}
-use Rattle.amr_config.specs.Read.Members.{unless_null, member_of, or_faulty, texts_at}
+use Rattle.amr_config.specs.Read.Members.{unless_null, member_of, texts_at}
 use Rattle.amr_config.specs.Read.Readings.{Reading, give, faulty, next, matchers_met, if_present, items_in_turn, members_in_turn}
 use Rattle.amr_config.specs.Read.ReadMatchers.{matcher_at, stated_into, matcher_into, members_into, object_into, spelled_at, spelled_into, texts_into, list_into, matchers_at}
 use Rattle.amr_config.specs.Read.ReadRules.{rule_at, rule_into, rules_list, rules_at}
 use Rattle.amr_config.specs.Read.Table.{IsText, IsListOf, StatesEach, StatesIf, StatesOr, MatcherOf, MatchersOf, IsMatchObject, IsMatcherText, IsMatcherList, StatesMatchers, IsRule}
 use Rattle.amr_config.specs.Read.Faults.{Finding, Fault, Pattern, first_fault, patterns_before, text_found, items_found, list_found, if_there, at, patterns_found, matchers_found, matcher_text_found, value_found, values_found, members_found, match_object_found, match_found, rule_found}
-use Rattle.amr_config.proofs.ReadLemmas.Judged.{Judged, by_findings, judged_ok, judged_fault, judged_then, judged_as, judged_map, judged_stated, judged_text, judged_object, judged_spelled, Adds, judged_each, judged_items, judged_list}
+use Rattle.amr_config.proofs.ReadLemmas.Judged.{Judged, by_findings, judged_ok, judged_fault, judged_then, judged_as, judged_map, judged_stated, judged_text, judged_object, judged_spelled, judged_there, judged_each, judged_items, judged_list_of}
 use Rattle.amr_config.proofs.ReadLemmas.JudgedParts.{judged_texts}
 
 -- ---- patterns
@@ -96,12 +95,10 @@ abbrev AddsThose : (List Matcher → Type 0) → List Matcher → List Matcher �
 AddsThose Are before after = (more : List Matcher) × (after ≡ before ++ more) × Are more
 
 walk_object : (operator : Operator) (path : List ℕ) (d : Data) (matchers : List Matcher) → Judged (members_into operator path d matchers) (match_object_found operator path d) (AddsThose (IsMatchObject operator d) matchers)
-unfolding members_into next
-walk_object operator path d matchers = go (as_object d) refl
-  where
-    go : (o : Option Members) → as_object d ≡ o → Judged (next (or_faulty path o) (λ ms. members_in_turn (matcher_into operator path) ms matchers)) (members_found operator path o) (AddsThose (IsMatchObject operator d) matchers)
-    go None is = judged_fault path _
-    go (Some ms) is = judged_as (members_in_turn (matcher_into operator path) ms matchers) (values_found operator path ms) (AddsMatchers operator ms matchers) _ (walk_members operator path ms matchers) (λ after (more, adds, of). (more, adds, (ms, is, of)))
+unfolding members_into
+walk_object operator path d matchers =
+    judged_there path (as_object d) _ (members_found operator path) _ refl (λ ms is.
+    judged_as (members_in_turn (matcher_into operator path) ms matchers) (values_found operator path ms) (AddsMatchers operator ms matchers) _ (walk_members operator path ms matchers) (λ after (more, adds, of). (more, adds, (ms, is, of))))
 
 -- a member that may be absent
 walk_under : (reads : Data → List Matcher → Reading (List Matcher)) (found : Data → List Finding) (Are : Data → List Matcher → Type 0) (o : Option Data) (matchers : List Matcher) → ((d : Data) → Judged (reads d matchers) (found d) (AddsThose (Are d) matchers)) → Judged (if_present reads o matchers) (if_there found o) (AddsThose (λ more. (states : Option (List Matcher)) × StatesIf Are o states × (more ≡ unwrap_or states [])) matchers)
@@ -169,13 +166,9 @@ walk_rule path d =
     judged_map _ _ _ _ _ (walk_matchers path (codes "target_match") (codes "target_match_re") (codes "target_matchers") d) (λ target has_target.
     record { equal = (equal, has_equal, refl); source = has_source; target = has_target }))))
 
-walk_rule_into : (path : List ℕ) (i : ℕ) (d : Data) (rules : List InhibitRule) → Judged (rule_into path i d rules) (rule_found (item_path path i) d) (Adds (λ i. IsRule) i d rules)
-unfolding rule_into
-walk_rule_into path i d rules = judged_map (rule_at (item_path path i) d) (λ rule. rules ++ rule ∷ []) (rule_found (item_path path i) d) (IsRule d) (Adds (λ i. IsRule) i d rules) (walk_rule (item_path path i) d) (λ rule is. (rule, refl, is))
-
 walk_rule_list : (path : List ℕ) (d : Data) → Judged (rules_list path d) (list_found rule_found path d) (IsListOf IsRule d)
-unfolding rules_list
-walk_rule_list path d = judged_list (rule_into path) rule_found path d (λ i. IsRule) (walk_rule_into path)
+unfolding rules_list rule_into
+walk_rule_list = judged_list_of rule_at rule_found IsRule walk_rule
 
 pub walk_rules : (d : Data) → Judged (rules_at d) (at (list_found rule_found) [] (codes "inhibit_rules") d) (StatesOr [] (IsListOf IsRule) (codes "inhibit_rules") d)
 unfolding rules_at

@@ -4,14 +4,12 @@ use Rattle.std.specs.Prelude.{option_and_then, unwrap_or, nat_lt}
 use Rattle.std.specs.List.{list_any}
 use Rattle.std.specs.Option.{option_map_or}
 use Rattle.std.specs.Ordering.{eq_by_cmp}
-use Rattle.std.proofs.lemmas.List.{append-nil}
+use Rattle.std.proofs.lemmas.List.{append-nil, map_push}
 use Rattle.serde_json.specs.Data.{Data, Items, no_items, item}
 use Rattle.serde_json.specs.Find.{as_str, as_array}
 use Rattle.amr_labels.specs.Labels.{Text, text_cmp}
 use Rattle.amr_time.specs.IntervalTexts.{time_at, end_time_at}
 use Rattle.amr_time.specs.SpanRead.{span_of}
-use Rattle.amr_time.specs.declared.intervals.TimeRange.{TimeRange}
-use Rattle.amr_time.specs.declared.intervals.IntervalMember.{IntervalMember}
 use Rattle.amr_config.specs.declared.stated.interval.NamedInterval.{NamedInterval}
 use Rattle.amr_config.specs.declared.read.read_intervals.Field.TheVariants.{Weekdays, Months, Years}
 use Rattle.amr_config.specs.Read.Paths.{under, item_path}
@@ -21,7 +19,7 @@ use Rattle.amr_config.specs.Read.ReadIntervals.{range_in, day_range_in, range_in
 use Rattle.amr_config.specs.Read.Timeout.{timeout_in, timeout_at}
 use Rattle.amr_config.specs.Read.Table.{IsText, IsDuration, IsListOf, StatesEach, StatesIf, States, StatesOr, HasAt, StatesTimeout, IsTime, IsTimeRange, IsRange, IsIntervalMember, IsInterval, IsDefinedName}
 use Rattle.amr_config.specs.Read.Faults.{unless_some, unless, spelled_found, text_found, object_found, list_found, if_there, at, global_found, range_found, start_before_end, time_in, time_range_found, location_found, interval_member_found, new_name_found, interval_found, name_in, intervals_found, names_in, interval_list_found, defined_name_found, names_under}
-use Rattle.amr_config.proofs.ReadLemmas.Judged.{Judged, by_findings, judged_ok, judged_fault, judged_then, judged_as, judged_map, judged_or_faulty, judged_if, judged_stated, judged_needed, judged_text, judged_object, judged_spelled, Adds, AddsEach, adds_none, adds_more, judged_items, judged_list, judged_added}
+use Rattle.amr_config.proofs.ReadLemmas.Judged.{Judged, by_findings, judged_ok, judged_then, judged_as, judged_map, judged_or_faulty, judged_if, judged_stated, judged_needed, judged_text, judged_object, judged_spelled, Adds, AddsEach, adds_none, adds_more, judged_items, judged_list, judged_list_of, judged_added, judged_unless}
 
 -- ---- texts and durations
 
@@ -31,13 +29,9 @@ judged_span path d =
     judged_spelled (λ text. or_faulty path (span_of text)) (λ o. unless_some path (option_and_then span_of o)) path d (IsDuration d) refl (λ text is.
     judged_or_faulty path (span_of text) (IsDuration d) (λ span e. (text, is, e)))
 
-judged_text_into : (path : List ℕ) (i : ℕ) (d : Data) (texts : List Text) → Judged (text_into path i d texts) (text_found (item_path path i) d) (Adds (λ i. IsText) i d texts)
-unfolding text_into
-judged_text_into path i d texts = judged_added (text_at (item_path path i) d) (text_found (item_path path i) d) (λ i. IsText) i d texts (judged_text (item_path path i) d)
-
 pub judged_texts : (path : List ℕ) (d : Data) → Judged (texts_at path d) (list_found text_found path d) (IsListOf IsText d)
-unfolding texts_at
-judged_texts path d = judged_list (text_into path) text_found path d (λ i. IsText) (judged_text_into path)
+unfolding texts_at text_into
+judged_texts = judged_list_of text_at text_found IsText judged_text
 
 judged_time : (spelled : List ℕ → Option ℕ) (path : List ℕ) (d : Data) → Judged (time_of spelled path d) (spelled_found spelled path d) (IsTime spelled d)
 unfolding time_of
@@ -47,14 +41,10 @@ judged_time spelled path d =
 
 -- ---- time intervals
 
-judged_range_into : {A : Type 0} (reads : Data → Option A) (path : List ℕ) (i : ℕ) (d : Data) (ranges : List A) → Judged (range_into reads path i d ranges) (range_found reads (item_path path i) d) (Adds (λ i. IsRange reads) i d ranges)
-unfolding range_into
-judged_range_into reads path i d ranges =
-    judged_added (or_faulty (item_path path i) (reads d)) (range_found reads (item_path path i) d) (λ i. IsRange reads) i d ranges (judged_or_faulty (item_path path i) (reads d) (IsRange reads d) (λ x is. is))
-
 judged_ranges : {A : Type 0} (reads : Data → Option A) (path : List ℕ) (d : Data) → Judged (ranges_at reads path d) (list_found (range_found reads) path d) (IsListOf (IsRange reads) d)
-unfolding ranges_at
-judged_ranges reads path d = judged_list (range_into reads path) (range_found reads) path d (λ i. IsRange reads) (judged_range_into reads path)
+unfolding ranges_at range_into
+judged_ranges reads =
+    judged_list_of (λ path d. or_faulty path (reads d)) (range_found reads) (IsRange reads) (λ path d. judged_or_faulty path (reads d) (IsRange reads d) (λ x is. is))
 
 time_there : (spelled : Text → Option ℕ) (key : Text) (d : Data) (time : ℕ) → HasAt (IsTime spelled) key d time → time_in spelled key d ≡ Some time
 time_there spelled key d time (v, at, (text, is, spells)) =
@@ -70,13 +60,9 @@ judged_time_range path d =
     (sym (ap (λ o. unless path (start_before_end o (time_in end_time_at (codes "end_time") d))) (time_there time_at (codes "start_time") d start has_start) ∙ ap (λ o. unless path (start_before_end (Some start) o)) (time_there end_time_at (codes "end_time") d end has_end)))
     (judged_if (nat_lt start end) (record { start = start; end = end }) path (IsTimeRange d) (λ lt. record { start = has_start; end = has_end; before = ltb→lt start end (rw lt tt) })))))
 
-judged_time_range_into : (path : List ℕ) (i : ℕ) (d : Data) (ranges : List TimeRange) → Judged (time_range_into path i d ranges) (time_range_found (item_path path i) d) (Adds (λ i. IsTimeRange) i d ranges)
-unfolding time_range_into
-judged_time_range_into path i d ranges = judged_added (time_range_at (item_path path i) d) (time_range_found (item_path path i) d) (λ i. IsTimeRange) i d ranges (judged_time_range (item_path path i) d)
-
 judged_times : (path : List ℕ) (d : Data) → Judged (times_at path d) (list_found time_range_found path d) (IsListOf IsTimeRange d)
-unfolding times_at
-judged_times path d = judged_list (time_range_into path) time_range_found path d (λ i. IsTimeRange) (judged_time_range_into path)
+unfolding times_at time_range_into
+judged_times = judged_list_of time_range_at time_range_found IsTimeRange judged_time_range
 
 abbrev IsLocation : Data → Bool → Type 0
 IsLocation d b = Unit {0}
@@ -102,13 +88,9 @@ judged_interval_member path d =
     judged_map _ _ _ _ _ (judged_ranges_under (range_in Years) path (codes "years") d) (λ years has_years.
     record { days_of_month = has_days; months = has_months; times = has_times; weekdays = has_weekdays; years = has_years })))))))
 
-judged_interval_member_into : (path : List ℕ) (i : ℕ) (d : Data) (members : List IntervalMember) → Judged (interval_member_into path i d members) (interval_member_found (item_path path i) d) (Adds (λ i. IsIntervalMember) i d members)
-unfolding interval_member_into
-judged_interval_member_into path i d members = judged_added (interval_member_at (item_path path i) d) (interval_member_found (item_path path i) d) (λ i. IsIntervalMember) i d members (judged_interval_member (item_path path i) d)
-
 judged_interval_members : (path : List ℕ) (d : Data) → Judged (interval_members_at path d) (list_found interval_member_found path d) (IsListOf IsIntervalMember d)
-unfolding interval_members_at
-judged_interval_members path d = judged_list (interval_member_into path) interval_member_found path d (λ i. IsIntervalMember) (judged_interval_member_into path)
+unfolding interval_members_at interval_member_into
+judged_interval_members = judged_list_of interval_member_at interval_member_found IsIntervalMember judged_interval_member
 
 -- ---- intervals with names of their own
 
@@ -118,10 +100,6 @@ names_of intervals = map (λ (interval : NamedInterval). interval.name) interval
 same_taken : (name : Text) (intervals : List NamedInterval) → list_any (λ other. eq_by_cmp text_cmp other name) (names_of intervals) ≡ is_taken name intervals
 same_taken name [] = refl
 same_taken name (interval ∷ intervals) = ap (λ b. eq_by_cmp text_cmp interval.name name || b) (same_taken name intervals)
-
-judged_unless : {A : Type 0} (b : Bool) (x : A) (path : List ℕ) (P : A → Type 0) → P x → Judged (if b then faulty path else give x) (unless path (not b)) P
-judged_unless true x path P p = judged_fault path P
-judged_unless false x path P p = judged_ok x P p
 
 judged_new_name : (intervals : List NamedInterval) (path : List ℕ) (d : Data) → Judged (new_name_at intervals path d) (new_name_found (names_of intervals) path d) (IsText d)
 unfolding new_name_at
@@ -148,13 +126,9 @@ name_there d interval is = go is.name
     go : HasAt IsText (codes "name") d interval.name → name_in d ≡ interval.name ∷ []
     go (v, at, text) = ap (λ o. option_map_or (λ name. name ∷ []) (option_and_then as_str o) []) at ∙ ap (λ o. option_map_or (λ name. name ∷ []) o []) text
 
-names_push : (intervals : List NamedInterval) (interval : NamedInterval) → names_of (intervals ++ interval ∷ []) ≡ names_of intervals ++ interval.name ∷ []
-names_push [] interval = refl
-names_push (other ∷ intervals) interval = ap (λ l. other.name ∷ l) (names_push intervals interval)
-
 names_after : (d : Data) (i : ℕ) (before after : List NamedInterval) → Adds (λ i. IsInterval) i d before after → names_of before ++ name_in d ≡ names_of after
 names_after d i before after (interval, adds, is) =
-    ap (λ l. names_of before ++ l) (name_there d interval is) ∙ sym (names_push before interval) ∙ ap names_of (sym adds)
+    ap (λ l. names_of before ++ l) (name_there d interval is) ∙ sym (map_push (λ (other : NamedInterval). other.name) before interval) ∙ ap names_of (sym adds)
 
 judged_intervals : (path : List ℕ) (i : ℕ) (ds : Items) (intervals : List NamedInterval) → Judged (items_in_turn (interval_into path) i ds intervals) (intervals_found (names_of intervals) path i ds) (AddsEach (λ i. IsInterval) i ds intervals)
 judged_intervals path i no_items intervals = judged_ok intervals _ (adds_none (λ i. IsInterval) i intervals)

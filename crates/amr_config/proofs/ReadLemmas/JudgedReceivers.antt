@@ -1,27 +1,27 @@
 -- What is read of a receiver states what is there, and a refusal is that of the first fault.
-use Rattle.std.proofs.Common.{◌≡◌, ℕ, zero, suc, ◌+◌, Bool, true, false, not, ◌||◌, if◌then◌else◌, List, [], ◌∷◌, ◌++◌, length, Option, Some, None, inl, inr, ◌⊎◌, refl, sym, ap, subst, ◌∙◌, arith, codes}
+use Rattle.std.proofs.Common.{◌≡◌, ℕ, zero, suc, ◌+◌, Bool, true, false, not, ◌||◌, if◌then◌else◌, List, [], ◌∷◌, ◌++◌, length, take, drop, Option, Some, None, inl, inr, ◌⊎◌, refl, sym, ap, subst, ◌∙◌, arith, codes}
 use Rattle.std.specs.Prelude.{unwrap_or, is_some, ◌==◌}
 use Rattle.std.specs.List.{Contains}
 use Rattle.std.specs.Option.{option_or, option_map_or}
-use Rattle.std.specs.Ordering.{is_gt}
 use Rattle.std.proofs.lemmas.List.Elements.{Contains-append_left, Contains-append_right, Contains-append_cases}
+use Rattle.std.proofs.lemmas.List.{take-append-drop}
 use Rattle.std.proofs.lemmas.Option.{none-some, same_Some}
 use Rattle.std.specs.FinMap.{slice_cmp-IsAntisymmetric, nat_cmp-IsAntisymmetric}
 use Rattle.std.specs.Ordering.{match_ordering}
 use Rattle.std.specs.declared.cmp.Ordering.{Ordering}
 use Rattle.std.specs.declared.cmp.Ordering.TheVariants.{Less, Equal, Greater}
-use Rattle.serde_json.specs.Data.{Data, null, boolean, number, string, array, object, Items, no_items, item, Members, no_members, member}
+use Rattle.serde_json.specs.Data.{Data, null, Items, no_items, item, Members, no_members, member}
 use Rattle.serde_json.specs.Find.{as_array, as_object, get_item}
 use Rattle.amr_labels.specs.Labels.{Text, text_cmp}
 use Rattle.amr_config.specs.declared.stated.receiver.Integration.{Integration}
-use Rattle.amr_config.specs.declared.stated.receiver.Receiver.{Receiver}
 use Rattle.amr_config.specs.Read.Paths.{under, item_path}
 use Rattle.amr_config.specs.Read.Members.{unless_null, member_of, or_faulty, flag_at}
-use Rattle.amr_config.specs.Read.Readings.{give, faulty, next, members_in_turn}
-use Rattle.amr_config.specs.Read.ReadReceivers.{default_of, entry_into, entries_at, is_on_side, kind_key, stated_entries, with_entries, entries_under, kind_into, kinds_at, name_at, receiver_at, receiver_into, receivers_list, receivers_at}
+use Rattle.amr_config.specs.Read.Readings.{give, faulty, members_in_turn}
+use Rattle.amr_config.specs.Read.ReadReceivers.{default_of, entry_into, entries_at, is_on_side, kind_key, stated_entries, with_entries, index_after, entries_under, kind_into, kinds_at, name_at, receiver_at, receiver_into, receivers_list, receivers_at}
 use Rattle.amr_config.specs.Read.Table.{IsText, IsFlag, IsListOf, StatesEach, StatesIf, StatesOr, HasAt, IsIntegration, AreIntegrations, IsMember, StatesIntegration, IsReceiver}
 use Rattle.amr_config.specs.Read.Faults.{unless_some, unless, flag_found, list_found, if_there, at, entry_found, entries_found, kinds_found, side_found, receiver_name_found, receiver_found}
-use Rattle.amr_config.proofs.ReadLemmas.Judged.{Judged, by_findings, judged_ok, judged_fault, judged_then, judged_as, judged_map, judged_or_faulty, judged_optional, judged_stated, judged_needed, judged_flag, judged_object, judged_spelled, Adds, judged_list, judged_added}
+use Rattle.amr_config.proofs.ReadLemmas.EntryInsertion.{with_entries_is}
+use Rattle.amr_config.proofs.ReadLemmas.Judged.{Judged, by_findings, judged_ok, judged_then, judged_as, judged_map, judged_or_faulty, judged_optional, judged_stated, judged_needed, judged_flag, judged_object, judged_spelled, judged_there, judged_unless, Adds, judged_list, judged_list_of}
 
 -- ---- entries
 
@@ -95,21 +95,15 @@ abbrev SideFrom : Bool → Data → List Integration → List Integration → Ty
 SideFrom side d before after = (ms : Members) × (as_object d ≡ Some ms) × KindsFrom side ms before after
 
 judged_side : (side : Bool) (path : List ℕ) (d : Data) (before : List Integration) → Judged (kinds_at side path d before) (side_found side path (as_object d)) (SideFrom side d before)
-unfolding kinds_at next
-judged_side side path d before = go (as_object d) refl
-  where
-    go : (o : Option Members) → as_object d ≡ o → Judged (next (or_faulty path o) (λ ms. members_in_turn (kind_into side path) ms before)) (side_found side path o) (SideFrom side d before)
-    go None is = judged_fault path _
-    go (Some ms) is = judged_as (members_in_turn (kind_into side path) ms before) _ _ _ (judged_kinds side path ms before) (λ after from. (ms, is, from))
+unfolding kinds_at
+judged_side side path d before =
+    judged_there path (as_object d) _ (side_found side path) _ refl (λ ms is.
+    judged_as (members_in_turn (kind_into side path) ms before) _ _ _ (judged_kinds side path ms before) (λ after from. (ms, is, from)))
 
 judged_name : (path : List ℕ) (d : Data) → Judged (name_at path d) (receiver_name_found path d) (IsText d)
 unfolding name_at
 judged_name path d =
-    judged_spelled (λ text. if length text == 0 then faulty path else give text) (λ o. unless path (option_map_or (λ name. not (length name == 0)) o false)) path d (IsText d) refl (λ text is. go text is (length text == 0))
-  where
-    go : (text : Text) → IsText d text → (b : Bool) → Judged (if b then faulty path else give text) (unless path (not b)) (IsText d)
-    go text is true = judged_fault path _
-    go text is false = judged_ok text _ is
+    judged_spelled (λ text. if length text == 0 then faulty path else give text) (λ o. unless path (option_map_or (λ name. not (length name == 0)) o false)) path d (IsText d) refl (λ text is. judged_unless (length text == 0) text path (IsText d) is)
 
 -- ---- the integrations are those that are stated
 
@@ -125,36 +119,26 @@ record IsOfMember (ms : Members) (x : Integration) : Type 0 where
   within : Contains entries x
 
 in_with : (xs : List Integration) (kind : Text) (entries : List Integration) (x : Integration) → Contains (with_entries xs kind entries) x → Contains xs x ⊎ Contains entries x
-in_with [] kind entries x c = inr c
-in_with (y ∷ ys) kind entries x c = go (λ c. in_with ys kind entries x c) (is_gt (text_cmp y.kind kind)) c
-  where
-    later : Contains ys x ⊎ Contains entries x → Contains (y ∷ ys) x ⊎ Contains entries x
-    later (inl (n, lt, is)) = inl (suc n, omega (arith, lt), is)
-    later (inr c) = inr c
-
-    go : (Contains (with_entries ys kind entries) x → Contains ys x ⊎ Contains entries x) → (b : Bool) → Contains (if b then entries ++ y ∷ ys else y ∷ with_entries ys kind entries) x → Contains (y ∷ ys) x ⊎ Contains entries x
-    go rest true c = elim (Contains-append_cases entries (y ∷ ys) x c) [ inl new ↦ inr new | inr old ↦ inl old ]
-    go rest false (zero, lt, is) = inl (0, omega arith, is)
-    go rest false (suc n, lt, is) = later (rest (n, omega (arith, lt), is))
+in_with xs kind entries x c =
+    let i = index_after xs kind in
+    let whole = λ (c : Contains (take i xs ++ drop i xs) x). subst (λ l. Contains l x) (take-append-drop i xs) c in
+    elim (Contains-append_cases (take i xs ++ entries) (drop i xs) x (subst (λ l. Contains l x) (with_entries_is xs kind entries) c)) [
+      | inl c ↦ elim (Contains-append_cases (take i xs) entries x c) [ inl early ↦ inl (whole (Contains-append_left (take i xs) (drop i xs) x early)) | inr new ↦ inr new ]
+      | inr late ↦ inl (whole (Contains-append_right (take i xs) (drop i xs) x late))
+    ]
 
 kept_with : (xs : List Integration) (kind : Text) (entries : List Integration) (x : Integration) → Contains xs x → Contains (with_entries xs kind entries) x
-kept_with [] kind entries x (n, lt, is) = absurd (omega (arith, lt))
-kept_with (y ∷ ys) kind entries x c = go (λ c. kept_with ys kind entries x c) (is_gt (text_cmp y.kind kind)) c
-  where
-    go : (Contains ys x → Contains (with_entries ys kind entries) x) → (b : Bool) → Contains (y ∷ ys) x → Contains (if b then entries ++ y ∷ ys else y ∷ with_entries ys kind entries) x
-    go rest true c = Contains-append_right entries (y ∷ ys) x c
-    go rest false (zero, lt, is) = (0, omega arith, is)
-    go rest false (suc n, lt, is) =
-        let (m, less, same) = rest (n, omega (arith, lt), is) in
-        (suc m, omega (arith, less), same)
+kept_with xs kind entries x c =
+    let i = index_after xs kind in
+    subst (λ l. Contains l x) (sym (with_entries_is xs kind entries)) (elim (Contains-append_cases (take i xs) (drop i xs) x (subst (λ l. Contains l x) (sym (take-append-drop i xs)) c)) [
+      | inl early ↦ Contains-append_left (take i xs ++ entries) (drop i xs) x (Contains-append_left (take i xs) entries x early)
+      | inr late ↦ Contains-append_right (take i xs ++ entries) (drop i xs) x late
+    ])
 
 new_with : (xs : List Integration) (kind : Text) (entries : List Integration) (x : Integration) → Contains entries x → Contains (with_entries xs kind entries) x
-new_with [] kind entries x c = c
-new_with (y ∷ ys) kind entries x c = go (new_with ys kind entries x c) (is_gt (text_cmp y.kind kind))
-  where
-    go : Contains (with_entries ys kind entries) x → (b : Bool) → Contains (if b then entries ++ y ∷ ys else y ∷ with_entries ys kind entries) x
-    go rest true = Contains-append_left entries (y ∷ ys) x c
-    go (m, less, same) false = (suc m, omega (arith, less), same)
+new_with xs kind entries x c =
+    let i = index_after xs kind in
+    subst (λ l. Contains l x) (sym (with_entries_is xs kind entries)) (Contains-append_left (take i xs ++ entries) (drop i xs) x (Contains-append_right (take i xs) entries x c))
 
 AllOf : Members → List Integration → Type 0
 AllOf whole xs = (x : Integration) → Contains xs x → IsOfMember whole x
@@ -238,19 +222,11 @@ of_entry kind i (item d ds) (y ∷ ys) (suc n) e are at =
 
 entries_there : (kind : Text) (v : Data) (xs : List Integration) → StatesIf (AreIntegrations kind) (unless_null (Some v)) (Some xs) → AreIntegrations kind v xs
 entries_there kind null xs h = absurd h
-entries_there kind (boolean b) xs h = h
-entries_there kind (number n) xs h = h
-entries_there kind (string s) xs h = h
-entries_there kind (array ds) xs h = h
-entries_there kind (object ms) xs h = h
+entries_there kind v xs h = h
 
 entries_not_missing : (kind : Text) (v : Data) (ds : Items) → as_array v ≡ Some ds → StatesIf (AreIntegrations kind) (unless_null (Some v)) None → ⊥
 entries_not_missing kind null ds e h = none-some ds e
-entries_not_missing kind (boolean b) ds e h = h
-entries_not_missing kind (number n) ds e h = h
-entries_not_missing kind (string s) ds e h = h
-entries_not_missing kind (array es) ds e h = h
-entries_not_missing kind (object ms) ds e h = h
+entries_not_missing kind v ds e h = h
 
 stated_by : (d : Data) (ms : Members) (x : Integration) → as_object d ≡ Some ms → IsOfMember ms x → StatesIntegration d x
 stated_by d ms x is_object is = go is.has is.within
@@ -351,13 +327,9 @@ judged_receiver path d =
     judged_then _ _ _ _ _ _ (judged_needed name_at receiver_name_found IsText path (codes "name") d (judged_name _)) (λ name has.
     judged_map _ _ _ _ _ (judged_side false path d first) (λ all after. read_receiver d name first all before has after)))
 
-judged_receiver_into : (path : List ℕ) (i : ℕ) (d : Data) (receivers : List Receiver) → Judged (receiver_into path i d receivers) (receiver_found (item_path path i) d) (Adds (λ i. IsReceiver) i d receivers)
-unfolding receiver_into
-judged_receiver_into path i d receivers = judged_added (receiver_at (item_path path i) d) (receiver_found (item_path path i) d) (λ i. IsReceiver) i d receivers (judged_receiver (item_path path i) d)
-
 judged_receiver_list : (path : List ℕ) (d : Data) → Judged (receivers_list path d) (list_found receiver_found path d) (IsListOf IsReceiver d)
-unfolding receivers_list
-judged_receiver_list path d = judged_list (receiver_into path) receiver_found path d (λ i. IsReceiver) (judged_receiver_into path)
+unfolding receivers_list receiver_into
+judged_receiver_list = judged_list_of receiver_at receiver_found IsReceiver judged_receiver
 
 pub judged_receivers : (d : Data) → Judged (receivers_at d) (at (list_found receiver_found) [] (codes "receivers") d) (StatesOr [] (IsListOf IsReceiver) (codes "receivers") d)
 unfolding receivers_at

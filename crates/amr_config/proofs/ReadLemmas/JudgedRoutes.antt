@@ -1,7 +1,8 @@
 -- What is read of the routes, and of a whole configuration, states what is there, and a refusal is that of the first fault.
-use Rattle.std.proofs.Common.{◌≡◌, ℕ, zero, suc, ◌+◌, Bool, true, false, ◌||◌, true≢false, List, [], ◌∷◌, ◌++◌, length, Option, Some, None, refl, sym, ap, subst, ◌∙◌, append_assoc, length-append, codes}
+use Rattle.std.proofs.Common.{◌≡◌, ℕ, zero, suc, ◌+◌, false, true≢false, List, [], ◌∷◌, ◌++◌, length, Option, Some, None, refl, sym, ap, subst, ◌∙◌, append_assoc, length-append, codes}
 use Rattle.std.specs.Prelude.{unwrap_or}
 use Rattle.std.specs.Option.{option_map_or}
+use Rattle.std.proofs.lemmas.Bool.{or_parts}
 use Rattle.std.proofs.lemmas.List.{append-nil}
 use Rattle.serde_json.specs.Data.{Data, Items, no_items, item}
 use Rattle.serde_json.specs.Find.{as_array}
@@ -101,22 +102,14 @@ adds_tree whole parent d ds before one after (tree, adds, is) (trees, rest, are)
     let long : length one ≡ length before + length tree = ap length adds ∙ length-append before tree in
     (tree ++ trees, rest ∙ ap (λ l. l ++ trees) adds ∙ append_assoc before tree trees, OneMore (length before) parent d ds tree trees is (subst (λ n. AreTrees whole n parent ds trees) long are))
 
-neither_first : (a b : Bool) → (a || b) ≡ false → a ≡ false
-neither_first true b e = e
-neither_first false b e = refl
-
-neither_second : (a b : Bool) → (a || b) ≡ false → b ≡ false
-neither_second true b e = absurd (true≢false e)
-neither_second false b e = e
-
 abbrev JudgesTree : Data → ℕ → Type 0
 JudgesTree whole left = (path : List ℕ) (parent : Option ℕ) (d : Data) (routes : List Route) → is_deeper left d ≡ false → Judged (add_route whole left path parent d routes) (route_found whole left path d) (AddsTree whole parent d routes)
 
 walk_trees : (whole : Data) (left : ℕ) (path : List ℕ) (parent i : ℕ) (ds : Items) (routes : List Route) → JudgesTree whole left → any_item (is_deeper left) ds ≡ false → Judged (items_in_turn (child_into whole left path parent) i ds routes) (each_found (route_found whole left) (under path (codes "routes")) i ds) (AddsTrees whole parent ds routes)
 walk_trees whole left path parent i no_items routes judges shallow = judged_ok routes _ ([], sym (append-nil routes), NoMore (length routes) parent)
 walk_trees whole left path parent i (item d ds) routes judges shallow =
-    judged_then (child_into whole left path parent i d routes) (items_in_turn (child_into whole left path parent) (i + 1) ds) (route_found whole left (item_path (under path (codes "routes")) i) d) (each_found (route_found whole left) (under path (codes "routes")) (i + 1) ds) (AddsTree whole (Some parent) d routes) (AddsTrees whole parent (item d ds) routes) (judges (item_path (under path (codes "routes")) i) (Some parent) d routes (neither_first _ _ shallow)) (λ one adds.
-    judged_as (items_in_turn (child_into whole left path parent) (i + 1) ds one) (each_found (route_found whole left) (under path (codes "routes")) (i + 1) ds) (AddsTrees whole parent ds one) (AddsTrees whole parent (item d ds) routes) (walk_trees whole left path parent (i + 1) ds one judges (neither_second (is_deeper left d) _ shallow)) (λ after rest. adds_tree whole parent d ds routes one after adds rest))
+    judged_then (child_into whole left path parent i d routes) (items_in_turn (child_into whole left path parent) (i + 1) ds) (route_found whole left (item_path (under path (codes "routes")) i) d) (each_found (route_found whole left) (under path (codes "routes")) (i + 1) ds) (AddsTree whole (Some parent) d routes) (AddsTrees whole parent (item d ds) routes) (judges (item_path (under path (codes "routes")) i) (Some parent) d routes (or_parts _ _ shallow).0) (λ one adds.
+    judged_as (items_in_turn (child_into whole left path parent) (i + 1) ds one) (each_found (route_found whole left) (under path (codes "routes")) (i + 1) ds) (AddsTrees whole parent ds one) (AddsTrees whole parent (item d ds) routes) (walk_trees whole left path parent (i + 1) ds one judges (or_parts (is_deeper left d) _ shallow).1) (λ after rest. adds_tree whole parent d ds routes one after adds rest))
 
 -- the routes of a list that may be absent
 abbrev AddsBelow : Data → ℕ → Option Data → List Route → List Route → Type 0
