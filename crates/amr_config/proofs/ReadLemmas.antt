@@ -10,7 +10,6 @@ pub mod JudgedRoutes
 pub mod Levels
 pub mod NameSets
 pub mod OnlyDots
-pub mod Parents
 pub mod PatternsMet
 pub mod Preorder
 pub mod ReadKeys

@@ -1,7 +1,8 @@
 -- The routes have more levels than are left exactly if a route is that deep.
 use Rattle.std.proofs.Common.{◌≡◌, ℕ, zero, suc, ◌+◌, ◌-◌, Bool, true, false, ◌||◌, true≢false, Option, Some, None, refl, sym, subst, arith, codes}
+use Rattle.std.proofs.Math.Bool.{or-true}
 use Rattle.std.specs.Option.{option_map_or}
-use Rattle.serde_json.specs.Data.{Data, null, boolean, number, string, array, object, Items, no_items, item}
+use Rattle.serde_json.specs.Data.{Data, array, Items, no_items, item}
 use Rattle.serde_json.specs.Find.{get_item}
 use Rattle.amr_config.specs.Read.Members.{member_of}
 use Rattle.amr_config.specs.Read.RouteParts.{is_deeper, is_too_deep}
@@ -10,10 +11,6 @@ use Rattle.amr_config.specs.Read.Levels.{IsAtLevel, Root, Below, HasDeepRoute}
 
 no_truth : {A : Type 0} → false ≡ true → A
 no_truth e = absurd (true≢false (sym e))
-
-or_true : (b : Bool) → (b || true) ≡ true
-or_true true = refl
-or_true false = refl
 
 -- an item that passes the test has an index
 any_found : (p : Data → Bool) (ds : Items) → any_item p ds ≡ true → (index : ℕ) × (d : Data) × (get_item index ds ≡ Some d) × (p d ≡ true)
@@ -31,7 +28,7 @@ any_from p no_items index d at holds = absurd (cc)
 any_from p (item e ds) zero d at holds =
     let same : e ≡ d = cc in
     rw same (rw holds)
-any_from p (item e ds) (suc index) d at holds = rw (any_from p ds index d at holds) (or_true (p e))
+any_from p (item e ds) (suc index) d at holds = rw (any_from p ds index d at holds) (or-true (p e))
 
 any_weaker : (p q : Data → Bool) (ds : Items) → ((d : Data) → p d ≡ true → q d ≡ true) → any_item p ds ≡ true → any_item q ds ≡ true
 any_weaker p q ds weaker e =
@@ -40,13 +37,8 @@ any_weaker p q ds weaker e =
 
 -- an item that is found is in an array
 list_there : (p : Data → Bool) (o : Option Data) → any_item p (list_in o) ≡ true → (list : Items) × (o ≡ Some (array list)) × (any_item p list ≡ true)
-list_there p None e = no_truth e
-list_there p (Some null) e = no_truth e
-list_there p (Some (boolean b)) e = no_truth e
-list_there p (Some (number n)) e = no_truth e
-list_there p (Some (string s)) e = no_truth e
 list_there p (Some (array ds)) e = (ds, refl, e)
-list_there p (Some (object ms)) e = no_truth e
+list_there p o e = no_truth e
 
 -- if a route has more levels than are left, one is that far below it
 goes_down : (whole : Data) (left : ℕ) (d : Data) (level : ℕ) → IsAtLevel whole d level → is_deeper left d ≡ true → (route : Data) × IsAtLevel whole route (level + left)

@@ -1,5 +1,5 @@
 -- The integrations of receivers that are read go by kind, and then by place.
-use Rattle.std.specs.Prelude.{◌&&◌, unwrap_or, nat_eq}
+use Rattle.std.specs.Prelude.{unwrap_or, nat_eq}
 use Rattle.std.specs.List.{ends_with}
 use Rattle.std.specs.Option.{option_or}
 use Rattle.std.specs.Ordering.{ordering_reverse}
@@ -8,27 +8,25 @@ use Rattle.std.proofs.lemmas.Option.{none-some, same_Some}
 use Rattle.serde_json.specs.Find.{get, get_member}
 use Rattle.amr_config.specs.Read.Members.{member_of}
 use Rattle.std.proofs.Common.{◌≡◌, inl, inr, ◌⊎◌, ◌≢◌, ℕ, ◌+◌, ◌-◌, ◌<◌, Bool, true, false, true≢false, not, if◌then◌else◌, List, [], ◌∷◌, ◌++◌, length, take, drop, Option, Some, None, Ok, refl, sym, ap, ◌∙◌, arith, append_assoc, codes}
+use Rattle.std.proofs.lemmas.Bool.{and_from}
 use Rattle.std.proofs.lemmas.List.{append-nil, take-append-drop}
+use Rattle.std.proofs.lemmas.List.Folds.{list_all-append}
 use Rattle.std.specs.List.{list_all}
 use Rattle.std.specs.Cmp.Lexicographic.{nat_list_cmp_total, same_text}
 use Rattle.std.specs.FinMap.{slice_cmp-IsAntisymmetric, nat_cmp-IsAntisymmetric}
 use Rattle.std.specs.Ordering.{nat_cmp, ordering_then, is_gt, is_lt, match_ordering}
 use Rattle.std.specs.declared.cmp.Ordering.{Ordering}
 use Rattle.std.specs.declared.cmp.Ordering.TheVariants.{Less, Equal, Greater}
-use Rattle.serde_json.specs.Data.{Data, null, boolean, number, string, array, object, Items, no_items, item, Members, no_members, member}
+use Rattle.serde_json.specs.Data.{Data, null, array, object, Items, no_items, item, Members, no_members, member}
 use Rattle.amr_labels.specs.Labels.{Text, text_cmp}
 use Rattle.amr_config.specs.declared.stated.receiver.Integration.{Integration}
 use Rattle.amr_config.specs.declared.stated.receiver.Receiver.{Receiver}
 use Rattle.amr_config.specs.Read.Members.{unless_null, optional, optional_member, required_member, or_faulty, flag_at, items_at, members_at}
 use Rattle.amr_config.specs.Read.Paths.{under, item_path}
 use Rattle.amr_config.specs.Read.ReadReceivers.{default_of, entry_into, entries_at, is_on_side, kind_key, stated_entries, with_entries, entries_under, kind_into, kinds_at, name_at, receiver_at, receiver_into, receivers_list, receivers_at}
-use Rattle.amr_config.proofs.ReadLemmas.Preorder.{ok_same, bind_ok}
+use Rattle.amr_config.proofs.ReadLemmas.Preorder.{ok_same, bind_ok, was_walked}
 use Rattle.amr_config.specs.declared.stated.stated.Stated.{Stated}
-use Rattle.amr_config.specs.Read.ReadIntervals.{intervals_at}
 use Rattle.amr_config.specs.Read.Readings.{give, items_in_turn, members_in_turn}
-use Rattle.amr_config.specs.Read.Timeout.{timeout_at}
-use Rattle.amr_config.specs.Read.ReadRules.{rules_at}
-use Rattle.amr_config.specs.Read.ReadRoutes.{routes_at}
 use Rattle.amr_config.specs.Read.Walking.{walked_at}
 use Rattle.amr_config.specs.Read.Keys.{IsBelow, AreInOrder, HasOrderedKeys, HaveOrderedKeys, AllHaveOrderedKeys}
 use Rattle.amr_config.specs.Read.Order.{integration_cmp, are_in_order}
@@ -225,9 +223,8 @@ unfolding is_on_side
 not_both key first second = go (text_cmp key (codes "name")) first second
   where
     go : (o : Ordering) → match_ordering o true false (not true) ≡ true → match_ordering o false false (not false) ≡ true → ⊥
-    go Less e f = true≢false (sym f)
-    go Equal e f = true≢false (sym f)
     go Greater e f = true≢false (sym e)
+    go o e f = true≢false (sym f)
 
 off_after : (ms : Members) (ks : List Integration) → Each (IsNamed true) ks → Off false ms ks
 off_after no_members ks named = tt
@@ -289,12 +286,8 @@ kinds_named path (member key d ms) ks out e named =
 -- ---- receivers
 
 object_ordered : (path : List ℕ) (d : Data) (ms : Members) → HasOrderedKeys d → (members_at path d).value ≡ Ok ms → AreInOrder ms
-object_ordered path null ms order e = absurd (cc)
-object_ordered path (boolean b) ms order e = absurd (cc)
-object_ordered path (number n) ms order e = absurd (cc)
-object_ordered path (string t) ms order e = absurd (cc)
-object_ordered path (array ds) ms order e = absurd (cc)
 object_ordered path (object ks) ms order e = rw (← ok_same ks ms e) order.0
+object_ordered path d ms order e = absurd (cc)
 
 receiver_in_order : (path : List ℕ) (d : Data) (receiver : Receiver) → HasOrderedKeys d → (receiver_at path d).value ≡ Ok receiver → are_in_order receiver.integrations ≡ true
 unfolding receiver_at kinds_at
@@ -316,12 +309,8 @@ abbrev AreReceiversInOrder : List Receiver → Type 0
 AreReceiversInOrder receivers = list_all (λ (receiver : Receiver). are_in_order receiver.integrations) receivers ≡ true
 
 all_push : (receivers : List Receiver) (receiver : Receiver) → AreReceiversInOrder receivers → are_in_order receiver.integrations ≡ true → AreReceiversInOrder (receivers ++ receiver ∷ [])
-all_push [] receiver h k = rw k refl
-all_push (r ∷ rs) receiver h k = go (λ h. all_push rs receiver h k) (are_in_order r.integrations) refl h
-  where
-    go : (AreReceiversInOrder rs → AreReceiversInOrder (rs ++ receiver ∷ [])) → (b : Bool) → are_in_order r.integrations ≡ b → (b && list_all (λ (receiver : Receiver). are_in_order receiver.integrations) rs) ≡ true → (are_in_order r.integrations && list_all (λ (receiver : Receiver). are_in_order receiver.integrations) (rs ++ receiver ∷ [])) ≡ true
-    go rest true is h = rw is (rest h)
-    go rest false is h = absurd (true≢false (sym h))
+all_push receivers receiver h k =
+    list_all-append (λ (r : Receiver). are_in_order r.integrations) receivers (receiver ∷ []) ∙ and_from _ _ h (and_from _ _ k refl)
 
 list_in_order : (path : List ℕ) (i : ℕ) (ds : Items) (before after : List Receiver) → HaveOrderedKeys ds → (items_in_turn (receiver_into path) i ds before).value ≡ Ok after → AreReceiversInOrder before → AreReceiversInOrder after
 unfolding receiver_into
@@ -333,17 +322,12 @@ list_in_order path i (item d ds) before after order e h =
     list_in_order path (i + 1) ds one.0 after order.1 one.2 (rw (← is) (all_push before read.0 h (receiver_in_order (item_path path i) d read.0 order.0 read.1)))
 
 items_ordered : (path : List ℕ) (d : Data) (ds : Items) → HasOrderedKeys d → (items_at path d).value ≡ Ok ds → HaveOrderedKeys ds
-items_ordered path null ds order e = absurd (cc)
-items_ordered path (boolean b) ds order e = absurd (cc)
-items_ordered path (number n) ds order e = absurd (cc)
-items_ordered path (string t) ds order e = absurd (cc)
 items_ordered path (array es) ds order e = rw (← ok_same es ds e) order
-items_ordered path (object ms) ds order e = absurd (cc)
+items_ordered path d ds order e = absurd (cc)
 
 at_key : (o : Ordering) (e : Data) (later : Option Data) (d : Data) → match_ordering o later (Some e) later ≡ Some d → (e ≡ d) ⊎ (later ≡ Some d)
-at_key Less e later d is = inr is
 at_key Equal e later d is = inl (same_Some e d is)
-at_key Greater e later d is = inr is
+at_key o e later d is = inr is
 
 found_ordered : (key : Text) (ms : Members) (d : Data) → AllHaveOrderedKeys ms → get_member key ms ≡ Some d → HasOrderedKeys d
 found_ordered key no_members d order e = absurd (none-some d e)
@@ -354,25 +338,16 @@ found_ordered key (member k v ms) d order e =
     ]
 
 present_is : (o : Option Data) (d : Data) → unless_null o ≡ Some d → o ≡ Some d
-present_is None d e = e
 present_is (Some null) d e = absurd (none-some d e)
-present_is (Some (boolean b)) d e = e
-present_is (Some (number n)) d e = e
-present_is (Some (string s)) d e = e
-present_is (Some (array ds)) d e = e
-present_is (Some (object ms)) d e = e
+present_is o d e = e
 
 pub member_ordered : (key : Text) (d v : Data) → HasOrderedKeys d → member_of key d ≡ Some v → HasOrderedKeys v
 unfolding member_of
 member_ordered key d v order e = go d order (present_is (get key d) v e)
   where
     go : (d : Data) → HasOrderedKeys d → get key d ≡ Some v → HasOrderedKeys v
-    go null order e = absurd (none-some v e)
-    go (boolean b) order e = absurd (none-some v e)
-    go (number n) order e = absurd (none-some v e)
-    go (string s) order e = absurd (none-some v e)
-    go (array ds) order e = absurd (none-some v e)
     go (object ms) order e = found_ordered key ms v order.1 e
+    go d order e = absurd (none-some v e)
 
 pub receivers_in_order : (d : Data) (receivers : List Receiver) → HasOrderedKeys d → (receivers_at d).value ≡ Ok receivers → AreReceiversInOrder receivers
 unfolding receivers_at receivers_list
@@ -392,13 +367,4 @@ receivers_in_order d receivers order e =
         rw is (rw (← some) (list_in_order (codes "receivers") 0 items.0 [] read.0 ordered items.2 refl))
 
 pub walked_in_order : (d : Data) (stated : Stated) → HasOrderedKeys d → (walked_at d).value ≡ Ok stated → AreReceiversInOrder stated.receivers
-unfolding walked_at
-walked_in_order d stated order e =
-    let timeout = bind_ok (timeout_at d) _ stated e in
-    let rules = bind_ok (rules_at d) _ stated timeout.2 in
-    let mute = bind_ok (intervals_at (codes "mute_time_intervals") d []) _ stated rules.2 in
-    let receivers = bind_ok (receivers_at d) _ stated mute.2 in
-    let routes = bind_ok (routes_at d) _ stated receivers.2 in
-    let named = bind_ok (intervals_at (codes "time_intervals") d mute.0) _ stated routes.2 in
-    let same = ok_same _ stated named.2 in
-    rw (← same) (receivers_in_order d receivers.0 order receivers.1)
+walked_in_order d stated order e = receivers_in_order d stated.receivers order (was_walked d stated e).receivers

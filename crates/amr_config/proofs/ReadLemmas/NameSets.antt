@@ -6,6 +6,7 @@ use Rattle.std.specs.Cmp.Lexicographic.{nat_list_cmp_total}
 use Rattle.std.specs.List.{list_any}
 use Rattle.std.specs.Option.{option_map_or}
 use Rattle.std.specs.Ordering.{eq_by_cmp}
+use Rattle.std.proofs.Math.Bool.{and-false}
 use Rattle.std.proofs.lemmas.Cmp.{eq_by_cmp_equiv}
 use Rattle.std.proofs.lemmas.List.{drop_more, take_more}
 use Rattle.std.proofs.lemmas.List.Folds.{list_any-append}
@@ -56,16 +57,12 @@ one_after names i name old new within at is up =
 
 -- ---- names that differ
 
-and_false : (b : Bool) → (b && false) ≡ false
-and_false true = refl
-and_false false = refl
-
 -- names that are repeated at the end of a list are repeated in the list
 alike : (i : ℕ) (names : List Text) → are_different (drop i names) ≡ false → are_different names ≡ false
 alike zero names e = e
 alike (suc i) [] e = e
 alike (suc i) (name ∷ names) e =
-    ap (λ b. not (list_any (eq_by_cmp text_cmp name) names) && b) (alike i names e) ∙ and_false (not (list_any (eq_by_cmp text_cmp name) names))
+    ap (λ b. not (list_any (eq_by_cmp text_cmp name) names) && b) (alike i names e) ∙ and-false (not (list_any (eq_by_cmp text_cmp name) names))
 
 different_from : (names : List Text) (i j : ℕ) (name : Text) (old : BTreeSet Text) → j ≡ i + 1 → i < length names → name ≡ get_or names i name
     → IsSetOf (drop j names) old → are_different (drop i names) ≡ (not (contains text_cmp old name) && are_different (drop j names))

@@ -19,6 +19,7 @@ use Rattle.amr_config.specs.Read.ReadRules.{rules_at}
 use Rattle.amr_config.specs.Read.RouteParts.{children_at}
 use Rattle.amr_config.specs.Read.ReadRoutes.{route_at, own_into, add_route, child_into, tree_from, routes_at}
 use Rattle.amr_config.specs.Read.Walking.{walked_at}
+use Rattle.amr_config.specs.Settled.{AreParentsFirst, stated_config}
 
 abbrev pub AreFirst : List Route → Type 0
 AreFirst routes = (n parent : ℕ) → option_map_or (λ (route : Route). route.parent) (slice_get routes n) None ≡ Some parent → parent < n
@@ -115,9 +116,14 @@ routes_first d routes e =
     let found = found_ok d (member_of (codes "route") d) routes e in
     (route_keeps d 32 (codes "route") None found.0 [] routes found.1 none_first (λ p s. absurd (none-some p s))).first
 
-pub walked_first : (d : Data) (stated : Stated) → (walked_at d).value ≡ Ok stated → AreFirst stated.routes
+-- what was read of a whole configuration
+pub record WasWalked (d : Data) (stated : Stated) : Type 0 where
+  pub receivers : (receivers_at d).value ≡ Ok stated.receivers
+  pub routes : (routes_at d).value ≡ Ok stated.routes
+
+pub was_walked : (d : Data) (stated : Stated) → (walked_at d).value ≡ Ok stated → WasWalked d stated
 unfolding walked_at
-walked_first d stated e =
+was_walked d stated e =
     let timeout = bind_ok (timeout_at d) _ stated e in
     let rules = bind_ok (rules_at d) _ stated timeout.2 in
     let mute = bind_ok (intervals_at (codes "mute_time_intervals") d []) _ stated rules.2 in
@@ -125,4 +131,7 @@ walked_first d stated e =
     let routes = bind_ok (routes_at d) _ stated receivers.2 in
     let named = bind_ok (intervals_at (codes "time_intervals") d mute.0) _ stated routes.2 in
     let same = ok_same _ stated named.2 in
-    rw (← same) (routes_first d routes.0 routes.1)
+    rw (← same) (record { receivers = receivers.1; routes = routes.1 })
+
+pub parents_first : (d : Data) (stated : Stated) → (walked_at d).value ≡ Ok stated → AreParentsFirst (stated_config stated)
+parents_first d stated e = routes_first d stated.routes (was_walked d stated e).routes

@@ -10,15 +10,11 @@ use Rattle.amr_config.specs.declared.stated.route.Route.{Route}
 use Rattle.amr_config.specs.declared.stated.stated.Stated.{Stated}
 use Rattle.amr_config.specs.Read.Paths.{under, item_path}
 use Rattle.amr_config.specs.Read.Members.{member_of}
-use Rattle.amr_config.specs.Read.ReadIntervals.{intervals_at}
 use Rattle.amr_config.specs.Read.Readings.{items_in_turn}
-use Rattle.amr_config.specs.Read.Timeout.{timeout_at}
-use Rattle.amr_config.specs.Read.ReadReceivers.{receivers_at}
-use Rattle.amr_config.specs.Read.ReadRules.{rules_at}
 use Rattle.amr_config.specs.Read.RouteParts.{children_at}
 use Rattle.amr_config.specs.Read.ReadRoutes.{own_into, add_route, child_into, tree_from, routes_at}
 use Rattle.amr_config.specs.Read.Walking.{walked_at}
-use Rattle.amr_config.proofs.ReadLemmas.Preorder.{ok_same, bind_ok, own_adds, found_ok}
+use Rattle.amr_config.proofs.ReadLemmas.Preorder.{ok_same, bind_ok, own_adds, found_ok, was_walked}
 
 abbrev pub parent_at : List Route → ℕ → Option ℕ
 parent_at routes n = option_map_or (λ (route : Route). route.parent) (slice_get routes n) None
@@ -173,14 +169,6 @@ pub record IsTree (routes : List Route) : Type 0 where
   pub linked : IsLinked routes
 
 pub walked_tree : (d : Data) (stated : Stated) → (walked_at d).value ≡ Ok stated → IsTree stated.routes
-unfolding walked_at
 walked_tree d stated e =
-    let timeout = bind_ok (timeout_at d) _ stated e in
-    let rules = bind_ok (rules_at d) _ stated timeout.2 in
-    let mute = bind_ok (intervals_at (codes "mute_time_intervals") d []) _ stated rules.2 in
-    let receivers = bind_ok (receivers_at d) _ stated mute.2 in
-    let routes = bind_ok (routes_at d) _ stated receivers.2 in
-    let named = bind_ok (intervals_at (codes "time_intervals") d mute.0) _ stated routes.2 in
-    let same = ok_same _ stated named.2 in
-    let adds = routes_add d routes.0 routes.1 in
-    rw (← same) (record { some = adds.longer; root = adds.has; linked = adds.linked })
+    let adds = routes_add d stated.routes (was_walked d stated e).routes in
+    record { some = adds.longer; root = adds.has; linked = adds.linked }

@@ -1,10 +1,11 @@
 -- What is true of every configuration that was read.
-use Rattle.std.proofs.Common.{◌≡◌, ℕ, zero, suc, ◌+◌, ◌<◌, Bool, true, false, true≢false, List, [], ◌∷◌, length, Option, Some, None, Ok, refl, sym, ap, ◌∙◌, arith}
+use Rattle.std.proofs.Common.{◌≡◌, ℕ, zero, suc, ◌+◌, ◌<◌, Bool, true, false, true≢false, List, [], ◌∷◌, length, Option, Some, None, Ok, refl, sym, ◌∙◌, arith}
 use Rattle.std.specs.List.{Contains, list_any, slice_get}
-use Rattle.std.specs.Prelude.{not, ◌||◌, ◌==◌, if◌then◌else◌, map}
+use Rattle.std.specs.Prelude.{not, ◌||◌, ◌==◌, if◌then◌else◌}
 use Rattle.std.specs.Option.{option_map_or, is_none}
-use Rattle.std.specs.Ordering.{eq_by_cmp}
-use Rattle.amr_labels.specs.Labels.{Text, text_cmp}
+use Rattle.std.proofs.lemmas.Bool.{not-false, or_parts}
+use Rattle.std.proofs.lemmas.List.Elements.{Contains-append_right}
+use Rattle.amr_labels.specs.Labels.{Text}
 use Rattle.amr_config.specs.declared.stated.receiver.Receiver.{Receiver}
 use Rattle.amr_config.specs.declared.stated.route.Route.{Route}
 use Rattle.amr_config.specs.Read.Keys.{HasOrderedKeys}
@@ -17,16 +18,16 @@ use Rattle.amr_config.specs.declared.stated.stated.Stated.{Stated}
 use Rattle.amr_config.specs.Read.Readings.{plain, next}
 use Rattle.amr_config.specs.Read.RouteParts.{is_too_deep}
 use Rattle.amr_config.specs.Read.Walking.{walked_at}
-use Rattle.amr_config.proofs.ReadLemmas.Preorder.{ok_same, bind_ok}
+use Rattle.amr_config.proofs.ReadLemmas.Preorder.{ok_same, bind_ok, parents_first}
 use Rattle.amr_config.specs.Stated.Config.{Config}
 use Rattle.amr_config.specs.Routing.{parent_of, line_of}
 use Rattle.amr_config.specs.Settled.{stated_config, AreParentsFirst}
-use Rattle.amr_config.specs.Read.Shape.{IsPreorder, IsConfig, are_different, stated_receiver, is_receiver}
-use Rattle.amr_config.specs.Read.Judging.{refusal_of, is_lost, is_known, are_named_apart, is_name_of, root_is_bad, is_bad_root, has_intervals, has_zero, is_badly_grouped}
+use Rattle.amr_config.specs.Read.Shape.{IsPreorder, IsConfig, stated_receiver, is_receiver}
+use Rattle.amr_config.specs.Read.Judging.{refusal_of, is_lost, is_known, are_named_apart, root_is_bad, is_bad_root, has_intervals, has_zero, is_badly_grouped}
 use Rattle.amr_config.specs.Read.Reading.{unless_refused, reading_of, config_of}
 use Rattle.amr_config.specs.Read.ReadLaws.{RoutesAreInPreorder, ReadConfigsAreWhole}
 use Rattle.amr_config.proofs.Lines.{line_of-root, line_of-child}
-use Rattle.amr_config.proofs.ReadLemmas.Parents.{parents_first}
+use Rattle.amr_config.proofs.ReadLemmas.NameSets.{named_apart}
 use Rattle.amr_config.proofs.ReadLemmas.TreeOrder.{IsAbove, Itself, Further, IsTree, walked_tree, parent_within}
 use Rattle.std.proofs.lemmas.Option.{same_Some, none-some}
 
@@ -54,23 +55,17 @@ was_judged d config e = go (is_too_deep d) refl
         let (accepted, is) = accepted_from stated (refusal_of stated) config rest in
         record { stated = stated; shallow = shallow; walked = walked; accepted = accepted; is = is }
 
-in_head : (n : ℕ) (ns : List ℕ) → Contains (n ∷ ns) n
-in_head n ns = (0, omega arith, refl)
-
-in_tail : (n m : ℕ) (ns : List ℕ) → Contains ns m → Contains (n ∷ ns) m
-in_tail n m ns (k, lt, is) = (suc k, omega (arith, lt), is)
-
 in_line : (config : Config) → AreParentsFirst config → (n : ℕ) → Contains (line_of config n) n
 in_line config first n = go (parent_of config n) refl
   where
     go : (o : Option ℕ) → parent_of config n ≡ o → Contains (line_of config n) n
-    go None e = rw (line_of-root config first n e) (in_head n [])
-    go (Some parent) e = rw (line_of-child config first n parent e) (in_head n (line_of config parent))
+    go None e = rw (line_of-root config first n e) (0, omega arith, refl)
+    go (Some parent) e = rw (line_of-child config first n parent e) (0, omega arith, refl)
 
 above_in_line : (config : Config) → AreParentsFirst config → (n above : ℕ) → IsAbove config.routes n above → Contains (line_of config n) above
 above_in_line config first _ _ (Itself n) = in_line config first n
 above_in_line config first _ _ (Further n parent above e up) =
-    rw (line_of-child config first n parent e) (in_tail n above (line_of config parent) (above_in_line config first parent above up))
+    rw (line_of-child config first n parent e) (Contains-append_right (n ∷ []) (line_of config parent) above (above_in_line config first parent above up))
 
 same_parent : (config : Config) (n parent : ℕ) → parent_of config (n + 1) ≡ Some parent → parent_of config (suc n) ≡ Some parent
 same_parent config n parent e =
@@ -98,10 +93,6 @@ record IsGood (stated : Stated) : Type 0 where
   apart : are_named_apart stated.receivers ≡ true
   root : root_is_bad stated.routes ≡ false
 
-is_true : (b : Bool) → not b ≡ false → b ≡ true
-is_true true e = refl
-is_true false e = absurd (true≢false e)
-
 good_from : (a b c d e : Bool) → (if a then Some (Other UnknownReceiver) else (if b then Some (Other DuplicateReceiver) else (if c then Some (Other RootRoute) else (if d then Some (Other ZeroInterval) else (if e then Some (Other BadGroupBy) else None))))) ≡ None → (a ≡ false) × (b ≡ false) × (c ≡ false)
 good_from true b c d e h = cc
 good_from false true c d e h = cc
@@ -112,23 +103,19 @@ good : (stated : Stated) → refusal_of stated ≡ None → IsGood stated
 unfolding refusal_of
 good stated h =
     let (lost, apart, root) = good_from (list_any (is_lost stated.receivers) stated.routes) (not (are_named_apart stated.receivers)) (root_is_bad stated.routes) (list_any has_zero stated.routes) (list_any is_badly_grouped stated.routes) h in
-    record { none_lost = lost; apart = is_true (are_named_apart stated.receivers) apart; root = root }
-
-neither : (a b : Bool) → (a || b) ≡ false → (a ≡ false) × (b ≡ false)
-neither true b e = absurd (true≢false e)
-neither false b e = (refl, e)
+    record { none_lost = lost; apart = not-false (are_named_apart stated.receivers) apart; root = root }
 
 none_of : {X : Type 0} (p : X → Bool) (xs : List X) (n : ℕ) (x : X) → list_any p xs ≡ false → slice_get xs n ≡ Some x → p x ≡ false
 none_of p [] n x none at = absurd (none-some x at)
-none_of p (y ∷ ys) zero x none at = rw (← same_Some y x at) (neither (p y) (list_any p ys) none).0
-none_of p (y ∷ ys) (suc n) x none at = none_of p ys n x (neither (p y) (list_any p ys) none).1 at
+none_of p (y ∷ ys) zero x none at = rw (← same_Some y x at) (or_parts (p y) (list_any p ys) none).0
+none_of p (y ∷ ys) (suc n) x none at = none_of p ys n x (or_parts (p y) (list_any p ys) none).1 at
 
 -- ---- receivers
 
 known : (receivers : List Receiver) (route : Route) (name : Text) → is_lost receivers route ≡ false → route.receiver ≡ Some name → is_known receivers name ≡ true
 unfolding is_lost
 known receivers route name found states =
-    is_true (is_known receivers name) (rw states at found)
+    not-false (is_known receivers name) (rw states at found)
 
 stated_at : (routes : List Route) (n : ℕ) (name : Text) → option_map_or (λ (route : Route). route.receiver) (slice_get routes n) None ≡ Some name → (route : Route) × (slice_get routes n ≡ Some route) × (route.receiver ≡ Some name)
 stated_at routes n name states = go (slice_get routes n) refl states
@@ -143,14 +130,6 @@ all_known stated is n name states =
     let (route, at, names) = stated_at stated.routes n name states in
     known stated.receivers route name (none_of (is_lost stated.receivers) stated.routes n route is.none_lost at) names
 
-same_names : (name : Text) (receivers : List Receiver) → list_any (eq_by_cmp text_cmp name) (map (λ (receiver : Receiver). receiver.name) receivers) ≡ is_name_of name receivers
-same_names name [] = refl
-same_names name (r ∷ rs) = ap (λ b. eq_by_cmp text_cmp name r.name || b) (same_names name rs)
-
-different : (receivers : List Receiver) → are_different (map (λ (receiver : Receiver). receiver.name) receivers) ≡ are_named_apart receivers
-different [] = refl
-different (r ∷ rs) = rw (same_names r.name rs, different rs) refl
-
 -- ---- the root
 
 not_none : {X : Type 0} (o : Option X) → is_none o ≡ false → (x : X) × (o ≡ Some x)
@@ -161,8 +140,8 @@ root_names : (routes : List Route) → root_is_bad routes ≡ false → (name : 
 unfolding is_bad_root
 root_names [] e = absurd (true≢false e)
 root_names (root ∷ routes) e =
-    let any = neither _ (has_intervals root) e in
-    let none = neither (not (length root.matchers == 0) || root.continues) (is_none root.receiver) any.0 in
+    let any = or_parts _ (has_intervals root) e in
+    let none = or_parts (not (length root.matchers == 0) || root.continues) (is_none root.receiver) any.0 in
     not_none root.receiver none.1
 
 -- ---- parents
@@ -182,7 +161,7 @@ whole d stated ordered walked accepted =
       root_receiver = root_names stated.routes is.root;
       parents = parent_there (stated_config stated) (parents_first d stated walked) tree;
       known_receivers = all_known stated is;
-      different_receivers = different stated.receivers ∙ is.apart;
+      different_receivers = named_apart stated.receivers ∙ is.apart;
       integrations = walked_in_order d stated ordered walked;
     }
 
