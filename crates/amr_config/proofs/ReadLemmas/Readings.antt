@@ -2,13 +2,14 @@
 use Rattle.std.proofs.Common.{◌≡◌, ℕ, List, Option, Some, None, is_some, Result, Ok, Err, true, false, inl, inr, refl, ap, ◌∙◌}
 use Rattle.std.proofs.lemmas.List.Elements.{Contains-append_left, Contains-append_right}
 use Rattle.std.specs.Prelude.{unwrap_or}
+use Rattle.std.specs.Result.{IsErrAnd}
 use Rattle.serde_json.specs.Data.{Data, Members}
 use Rattle.serde_json.specs.Find.{as_object}
 use Rattle.amr_config.specs.declared.read.error.ConfigError.{ConfigError}
 use Rattle.amr_config.specs.declared.read.error.ConfigError.TheVariants.{Memory, Refused}
 use Rattle.amr_config.specs.Read.Members.{members_at}
 use Rattle.amr_config.specs.Read.Readings.{Reading, give, next, patterns_after, value_after, MayGive}
-use Rattle.amr_config.specs.Read.Answers.{IsFault, Fails, Stops, Reads}
+use Rattle.amr_config.specs.Read.Answers.{IsFault, Fails, Stops, Reads, ReadsInto}
 use Rattle.amr_config.proofs.ReadLemmas.Failing.{fails_at}
 
 is_none_from : {A : Type 0} (o : Option A) → is_some o ≡ false → o ≡ None
@@ -18,6 +19,15 @@ is_none_from (Some x) e = cc
 some_from : {A : Type 0} (o : Option A) → is_some o ≡ true → (x : A) × (o ≡ Some x)
 some_from None e = cc
 some_from (Some x) e = (x, refl)
+
+-- a `?` returns the error that stopped the walk
+pub stopped : {X Y : Type 0} (view : X → Y) (result : Result X ConfigError) (e : ConfigError) (reading : Reading Y) → IsErrAnd result (λ other. other ≡ e) → Stops e (MayGive reading) → Reads view result reading
+stopped view (Ok x) e reading passed h = absurd passed
+stopped view (Err other) e reading passed h = rw passed h
+
+pub stopped_into : {X Y : Type 0} (view : X → Y) (result : Result (Unit {0}) ConfigError) (new : X) (e : ConfigError) (reading : Reading Y) → IsErrAnd result (λ other. other ≡ e) → Stops e (MayGive reading) → ReadsInto view result new reading
+stopped_into view (Ok x) new e reading passed h = absurd passed
+stopped_into view (Err other) new e reading passed h = rw passed h
 
 -- where the first part stops, the walk stops
 pub stops_first : {A B : Type 0} (e : ConfigError) (part : Reading A) (rest : A → Reading B) → Stops e (MayGive part) → Stops e (MayGive (next part rest))

@@ -1,51 +1,44 @@
 use Rattle.std.proofs.Common.{refl, sym, ◌∙◌}
-use Rattle.std.proofs.lemmas.Result.{err_from_is_err_and}
 use Rattle.amr_config.specs.Read.Readings.{next}
 use Rattle.amr_config.specs.Read.ReadIntervals.{interval_member_at}
-use Rattle.amr_config.proofs.ReadLemmas.Failing.{fails_first, fails_later}
+use Rattle.amr_config.proofs.ReadLemmas.Failing.{fails_first, fails_later, failed}
 use Rattle.amr_config.proofs.ReadLemmas.Readings.{object_there, fails_past_object}
 use Rattle.amr_config.proofs.read.read_intervals.interval_member.Goals as goal
 
 pub returns-in_err-days_of_month : goal.returns-in_err-days_of_month
 unfolding interval_member_at
 returns-in_err-days_of_month c =
-    let p = err_from_is_err_and c.from_residual.result c.from_residual.ensures.1 in
-    rw (p.1, p.2) (fails_past_object _ _ _ _ (sym c.is_object.ensures ∙ c.if-not-is_object.false)
+    failed _ _ _ _ c.from_residual.ensures.1 (fails_past_object _ _ _ _ (sym c.is_object.ensures ∙ c.if-not-is_object.false)
     (fails_first _ _ _ c.in_err-days_of_month.ensures))
 
 pub returns-in_err-_location : goal.returns-in_err-_location
 unfolding interval_member_at
 returns-in_err-_location c =
-    let p = err_from_is_err_and c.from_residual-in_err-_location.result c.from_residual-in_err-_location.ensures.1 in
-    rw (p.1, p.2) (fails_past_object _ _ _ _ (sym c.is_object.ensures ∙ c.if-not-is_object.false)
+    failed _ _ _ _ c.from_residual-in_err-_location.ensures.1 (fails_past_object _ _ _ _ (sym c.is_object.ensures ∙ c.if-not-is_object.false)
     (fails_later _ _ _ _ c.in_ok-days_of_month.ensures (fails_first _ _ _ c.in_err-_location.ensures)))
 
 pub returns-in_err-months : goal.returns-in_err-months
 unfolding interval_member_at
 returns-in_err-months c =
-    let p = err_from_is_err_and c.from_residual-in_err-months.result c.from_residual-in_err-months.ensures.1 in
-    rw (p.1, p.2) (fails_past_object _ _ _ _ (sym c.is_object.ensures ∙ c.if-not-is_object.false)
+    failed _ _ _ _ c.from_residual-in_err-months.ensures.1 (fails_past_object _ _ _ _ (sym c.is_object.ensures ∙ c.if-not-is_object.false)
     (fails_later _ _ _ _ c.in_ok-days_of_month.ensures (fails_later _ _ _ _ c.in_ok-_location.ensures (fails_first _ _ _ c.in_err-months.ensures))))
 
 pub returns-in_err-times : goal.returns-in_err-times
 unfolding interval_member_at
 returns-in_err-times c =
-    let p = err_from_is_err_and c.from_residual-in_err-times.result c.from_residual-in_err-times.ensures.1 in
-    rw (p.1, p.2) (fails_past_object _ _ _ _ (sym c.is_object.ensures ∙ c.if-not-is_object.false)
+    failed _ _ _ _ c.from_residual-in_err-times.ensures.1 (fails_past_object _ _ _ _ (sym c.is_object.ensures ∙ c.if-not-is_object.false)
     (fails_later _ _ _ _ c.in_ok-days_of_month.ensures (fails_later _ _ _ _ c.in_ok-_location.ensures (fails_later _ _ _ _ c.in_ok-months.ensures (fails_first _ _ _ c.in_err-times.ensures)))))
 
 pub returns-in_err-weekdays : goal.returns-in_err-weekdays
 unfolding interval_member_at
 returns-in_err-weekdays c =
-    let p = err_from_is_err_and c.from_residual-in_err-weekdays.result c.from_residual-in_err-weekdays.ensures.1 in
-    rw (p.1, p.2) (fails_past_object _ _ _ _ (sym c.is_object.ensures ∙ c.if-not-is_object.false)
+    failed _ _ _ _ c.from_residual-in_err-weekdays.ensures.1 (fails_past_object _ _ _ _ (sym c.is_object.ensures ∙ c.if-not-is_object.false)
     (fails_later _ _ _ _ c.in_ok-days_of_month.ensures (fails_later _ _ _ _ c.in_ok-_location.ensures (fails_later _ _ _ _ c.in_ok-months.ensures (fails_later _ _ _ _ c.in_ok-times.ensures (fails_first _ _ _ c.in_err-weekdays.ensures))))))
 
 pub returns-in_err-years : goal.returns-in_err-years
 unfolding interval_member_at
 returns-in_err-years c =
-    let p = err_from_is_err_and c.from_residual-in_err-years.result c.from_residual-in_err-years.ensures.1 in
-    rw (p.1, p.2) (fails_past_object _ _ _ _ (sym c.is_object.ensures ∙ c.if-not-is_object.false)
+    failed _ _ _ _ c.from_residual-in_err-years.ensures.1 (fails_past_object _ _ _ _ (sym c.is_object.ensures ∙ c.if-not-is_object.false)
     (fails_later _ _ _ _ c.in_ok-days_of_month.ensures (fails_later _ _ _ _ c.in_ok-_location.ensures (fails_later _ _ _ _ c.in_ok-months.ensures (fails_later _ _ _ _ c.in_ok-times.ensures (fails_later _ _ _ _ c.in_ok-weekdays.ensures (fails_first _ _ _ c.in_err-years.ensures)))))))
 
 pub returns : goal.returns

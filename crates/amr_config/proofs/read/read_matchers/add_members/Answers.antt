@@ -1,10 +1,9 @@
 use Rattle.std.proofs.Common.{rules, sym}
-use Rattle.std.proofs.lemmas.Result.{err_from_is_err_and}
 use Rattle.std.proofs.lemmas.Map.Iter.{rest_more}
 use Rattle.std.specs.Map.Iter.{deref_pair}
 use Rattle.amr_config.specs.Read.Paths.{path_text}
 use Rattle.amr_config.specs.Read.ReadMatchers.{matcher_into, members_into}
-use Rattle.amr_config.proofs.ReadLemmas.Readings.{stops_first, stops_plain, no_members}
+use Rattle.amr_config.proofs.ReadLemmas.Readings.{stops_first, stops_plain, no_members, stopped_into}
 use Rattle.amr_config.proofs.ReadLemmas.Turns.{ends_past, ends_itself, member_ends, member_stops}
 use Rattle.amr_config.proofs.read.read_matchers.add_members.Goals as goal
 
@@ -24,6 +23,5 @@ loop-key-preserved c =
 
 pub returns-in_err-add_member : goal.returns-in_err-add_member
 returns-in_err-add_member c =
-    let p = err_from_is_err_and c.from_residual.result c.from_residual.ensures.1 in
     let rest = rest_more deref_pair _ _ _ (c.in-Some-2.key, c.in-Some-2.value) c.in-Some-2.is c.next.ensures.steps in
-    rw (p.1, p.2) (member_stops (matcher_into c.args.operator (path_text c.args.path.now)) c.loop-key.key-iterator c.next.new.self c.in-Some-2.key.now c.in-Some-2.value.now c.loop-key.matchers.items c.in_err-add_member.field-0.0 _ rest (rw c.as_str.ensures.value at c.in_err-add_member.ensures) c.loop-key.invariant)
+    stopped_into _ _ _ _ _ c.from_residual.ensures.1 (member_stops (matcher_into c.args.operator (path_text c.args.path.now)) c.loop-key.key-iterator c.next.new.self c.in-Some-2.key.now c.in-Some-2.value.now c.loop-key.matchers.items c.in_err-add_member.field-0.0 _ rest (rw c.as_str.ensures.value at c.in_err-add_member.ensures) c.loop-key.invariant)

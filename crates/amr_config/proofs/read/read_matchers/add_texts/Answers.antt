@@ -1,15 +1,13 @@
-use Rattle.std.proofs.lemmas.Result.{err_from_is_err_and}
 use Rattle.amr_config.specs.Read.Paths.{path_text}
 use Rattle.amr_config.specs.Read.ReadMatchers.{spelled_into, texts_into}
-use Rattle.amr_config.proofs.ReadLemmas.Readings.{stops_first, stops_plain}
+use Rattle.amr_config.proofs.ReadLemmas.Readings.{stops_first, stops_plain, stopped_into}
 use Rattle.amr_config.proofs.ReadLemmas.Turns.{ends_after, ends_itself, item_ends, item_stops}
 use Rattle.amr_config.proofs.read.read_matchers.add_texts.Goals as goal
 
 pub returns-in_err-items : goal.returns-in_err-items
 unfolding texts_into
 returns-in_err-items c =
-    let p = err_from_is_err_and c.from_residual.result c.from_residual.ensures.1 in
-    rw (p.1, p.2) (stops_first _ _ _ (stops_plain _ _ c.in_err-items.ensures))
+    stopped_into _ _ _ _ _ c.from_residual.ensures.1 (stops_first _ _ _ (stops_plain _ _ c.in_err-items.ensures))
 
 pub loop-index-init : goal.loop-index-init
 unfolding texts_into
@@ -21,5 +19,4 @@ loop-index-preserved c =
 
 pub returns-in_err-add_text : goal.returns-in_err-add_text
 returns-in_err-add_text c =
-    let p = err_from_is_err_and c.from_residual-in_err-add_text.result c.from_residual-in_err-add_text.ensures.1 in
-    rw (p.1, p.2) (item_stops (spelled_into (path_text c.args.path.now)) c.in_ok-items.items.now c.loop-index.index c.index-items-index.result c.loop-index.matchers.items c.in_err-add_text.field-0.0 _ c.loop-index-test.true c.index-items-index.is c.in_err-add_text.ensures c.loop-index.invariant)
+    stopped_into _ _ _ _ _ c.from_residual-in_err-add_text.ensures.1 (item_stops (spelled_into (path_text c.args.path.now)) c.in_ok-items.items.now c.loop-index.index c.index-items-index.result c.loop-index.matchers.items c.in_err-add_text.field-0.0 _ c.loop-index-test.true c.index-items-index.is c.in_err-add_text.ensures c.loop-index.invariant)

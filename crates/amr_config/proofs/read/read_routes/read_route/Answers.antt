@@ -1,8 +1,7 @@
-use Rattle.std.proofs.lemmas.Result.{err_from_is_err_and}
 use Rattle.std.proofs.Common.{refl, sym, ◌∙◌}
 use Rattle.amr_config.specs.Read.Readings.{next}
 use Rattle.amr_config.specs.Read.ReadRoutes.{route_at}
-use Rattle.amr_config.proofs.ReadLemmas.Readings.{read_past_object, stops_first, stops_later, stops_past, stops_plain, no_object, past_object}
+use Rattle.amr_config.proofs.ReadLemmas.Readings.{read_past_object, stops_first, stops_later, stops_past, stops_plain, no_object, past_object, stopped}
 use Rattle.amr_config.proofs.read.read_routes.read_route.Goals as goal
 
 pub returns-then-not-is_object : goal.returns-then-not-is_object
@@ -13,64 +12,55 @@ returns-then-not-is_object c =
 pub returns-in_err-active : goal.returns-in_err-active
 unfolding route_at
 returns-in_err-active c =
-    let p = err_from_is_err_and c.from_residual.result c.from_residual.ensures.1 in
-    rw (p.1, p.2) (past_object _ _ _ _ (sym c.is_object.ensures ∙ c.if-not-is_object.false)
+    stopped _ _ _ _ c.from_residual.ensures.1 (past_object _ _ _ _ (sym c.is_object.ensures ∙ c.if-not-is_object.false)
     (stops_first _ _ _ (stops_plain _ _ c.in_err-active.ensures)))
 
 pub returns-in_err-continues : goal.returns-in_err-continues
 unfolding route_at
 returns-in_err-continues c =
-    let p = err_from_is_err_and c.from_residual-in_err-continues.result c.from_residual-in_err-continues.ensures.1 in
-    rw (p.1, p.2) (past_object _ _ _ _ (sym c.is_object.ensures ∙ c.if-not-is_object.false)
+    stopped _ _ _ _ c.from_residual-in_err-continues.ensures.1 (past_object _ _ _ _ (sym c.is_object.ensures ∙ c.if-not-is_object.false)
     (stops_past _ _ _ _ c.in_ok-active.ensures (stops_first _ _ _ (stops_plain _ _ c.in_err-continues.ensures))))
 
 pub returns-in_err-group_by : goal.returns-in_err-group_by
 unfolding route_at
 returns-in_err-group_by c =
-    let p = err_from_is_err_and c.from_residual-in_err-group_by.result c.from_residual-in_err-group_by.ensures.1 in
-    rw (p.1, p.2) (past_object _ _ _ _ (sym c.is_object.ensures ∙ c.if-not-is_object.false)
+    stopped _ _ _ _ c.from_residual-in_err-group_by.ensures.1 (past_object _ _ _ _ (sym c.is_object.ensures ∙ c.if-not-is_object.false)
     (stops_past _ _ _ _ c.in_ok-active.ensures (stops_past _ _ _ _ c.in_ok-continues.ensures (stops_first _ _ _ (stops_plain _ _ c.in_err-group_by.ensures)))))
 
 pub returns-in_err-group_interval : goal.returns-in_err-group_interval
 unfolding route_at
 returns-in_err-group_interval c =
-    let p = err_from_is_err_and c.from_residual-in_err-group_interval.result c.from_residual-in_err-group_interval.ensures.1 in
-    rw (p.1, p.2) (past_object _ _ _ _ (sym c.is_object.ensures ∙ c.if-not-is_object.false)
+    stopped _ _ _ _ c.from_residual-in_err-group_interval.ensures.1 (past_object _ _ _ _ (sym c.is_object.ensures ∙ c.if-not-is_object.false)
     (stops_past _ _ _ _ c.in_ok-active.ensures (stops_past _ _ _ _ c.in_ok-continues.ensures (stops_past _ _ _ _ c.in_ok-group_by.ensures (stops_first _ _ _ (stops_plain _ _ c.in_err-group_interval.ensures))))))
 
 pub returns-in_err-group_wait : goal.returns-in_err-group_wait
 unfolding route_at
 returns-in_err-group_wait c =
-    let p = err_from_is_err_and c.from_residual-in_err-group_wait.result c.from_residual-in_err-group_wait.ensures.1 in
-    rw (p.1, p.2) (past_object _ _ _ _ (sym c.is_object.ensures ∙ c.if-not-is_object.false)
+    stopped _ _ _ _ c.from_residual-in_err-group_wait.ensures.1 (past_object _ _ _ _ (sym c.is_object.ensures ∙ c.if-not-is_object.false)
     (stops_past _ _ _ _ c.in_ok-active.ensures (stops_past _ _ _ _ c.in_ok-continues.ensures (stops_past _ _ _ _ c.in_ok-group_by.ensures (stops_past _ _ _ _ c.in_ok-group_interval.ensures (stops_first _ _ _ (stops_plain _ _ c.in_err-group_wait.ensures)))))))
 
 pub returns-in_err-matchers : goal.returns-in_err-matchers
 unfolding route_at
 returns-in_err-matchers c =
-    let p = err_from_is_err_and c.from_residual-in_err-matchers.result c.from_residual-in_err-matchers.ensures.1 in
-    rw (p.1, p.2) (past_object _ _ _ _ (sym c.is_object.ensures ∙ c.if-not-is_object.false)
+    stopped _ _ _ _ c.from_residual-in_err-matchers.ensures.1 (past_object _ _ _ _ (sym c.is_object.ensures ∙ c.if-not-is_object.false)
     (stops_past _ _ _ _ c.in_ok-active.ensures (stops_past _ _ _ _ c.in_ok-continues.ensures (stops_past _ _ _ _ c.in_ok-group_by.ensures (stops_past _ _ _ _ c.in_ok-group_interval.ensures (stops_past _ _ _ _ c.in_ok-group_wait.ensures (stops_first _ _ _ c.in_err-matchers.ensures)))))))
 
 pub returns-in_err-mute : goal.returns-in_err-mute
 unfolding route_at
 returns-in_err-mute c =
-    let p = err_from_is_err_and c.from_residual-in_err-mute.result c.from_residual-in_err-mute.ensures.1 in
-    rw (p.1, p.2) (past_object _ _ _ _ (sym c.is_object.ensures ∙ c.if-not-is_object.false)
+    stopped _ _ _ _ c.from_residual-in_err-mute.ensures.1 (past_object _ _ _ _ (sym c.is_object.ensures ∙ c.if-not-is_object.false)
     (stops_past _ _ _ _ c.in_ok-active.ensures (stops_past _ _ _ _ c.in_ok-continues.ensures (stops_past _ _ _ _ c.in_ok-group_by.ensures (stops_past _ _ _ _ c.in_ok-group_interval.ensures (stops_past _ _ _ _ c.in_ok-group_wait.ensures (stops_later _ _ _ _ c.in_ok-matchers.ensures (stops_first _ _ _ (stops_plain _ _ c.in_err-mute.ensures)))))))))
 
 pub returns-in_err-receiver : goal.returns-in_err-receiver
 unfolding route_at
 returns-in_err-receiver c =
-    let p = err_from_is_err_and c.from_residual-in_err-receiver.result c.from_residual-in_err-receiver.ensures.1 in
-    rw (p.1, p.2) (past_object _ _ _ _ (sym c.is_object.ensures ∙ c.if-not-is_object.false)
+    stopped _ _ _ _ c.from_residual-in_err-receiver.ensures.1 (past_object _ _ _ _ (sym c.is_object.ensures ∙ c.if-not-is_object.false)
     (stops_past _ _ _ _ c.in_ok-active.ensures (stops_past _ _ _ _ c.in_ok-continues.ensures (stops_past _ _ _ _ c.in_ok-group_by.ensures (stops_past _ _ _ _ c.in_ok-group_interval.ensures (stops_past _ _ _ _ c.in_ok-group_wait.ensures (stops_later _ _ _ _ c.in_ok-matchers.ensures (stops_past _ _ _ _ c.in_ok-mute.ensures (stops_first _ _ _ (stops_plain _ _ c.in_err-receiver.ensures))))))))))
 
 pub returns-in_err-repeat_interval : goal.returns-in_err-repeat_interval
 unfolding route_at
 returns-in_err-repeat_interval c =
-    let p = err_from_is_err_and c.from_residual-in_err-repeat_interval.result c.from_residual-in_err-repeat_interval.ensures.1 in
-    rw (p.1, p.2) (past_object _ _ _ _ (sym c.is_object.ensures ∙ c.if-not-is_object.false)
+    stopped _ _ _ _ c.from_residual-in_err-repeat_interval.ensures.1 (past_object _ _ _ _ (sym c.is_object.ensures ∙ c.if-not-is_object.false)
     (stops_past _ _ _ _ c.in_ok-active.ensures (stops_past _ _ _ _ c.in_ok-continues.ensures (stops_past _ _ _ _ c.in_ok-group_by.ensures (stops_past _ _ _ _ c.in_ok-group_interval.ensures (stops_past _ _ _ _ c.in_ok-group_wait.ensures (stops_later _ _ _ _ c.in_ok-matchers.ensures (stops_past _ _ _ _ c.in_ok-mute.ensures (stops_past _ _ _ _ c.in_ok-receiver.ensures (stops_first _ _ _ (stops_plain _ _ c.in_err-repeat_interval.ensures)))))))))))
 
 pub returns : goal.returns
