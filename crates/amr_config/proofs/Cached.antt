@@ -1,20 +1,14 @@
 -- Caches of answers for label sets: without an answer, with one more, and under another configuration.
-use Rattle.std.proofs.Common.{arith, ◌≡◌, ℕ, true, List, Bor, cond, Option, None, Some, refl, sym, ap, subst, ◌∙◌}
-use Rattle.std.specs.declared.cmp.Ordering.TheVariants.{Less, Equal, Greater}
-use Rattle.std.specs.Ordering.{is_eq, eq_by_cmp}
+use Rattle.std.proofs.Common.{arith, ◌≡◌, ℕ, Bool, true, false, List, Bor, cond, Option, None, Some, refl, sym, ap, subst, ◌∙◌}
+use Rattle.std.specs.Ordering.{eq_by_cmp}
 use Rattle.std.specs.Slice.{IsItemAt}
+use Rattle.std.proofs.lemmas.Option.{none-some, same_Some}
 use Rattle.std.proofs.lemmas.Map.Views.{tells_apart}
 use Rattle.amr_labels.specs.Labels.{LabelSet, label_set_cmp, label_set_cmp_total, label_set_cmp-IsAntisymmetric}
 use Rattle.amr_labels.specs.Map.{Map, empty, get, set, get-empty, get-set}
 use Rattle.amr_config.specs.declared.router.CachedRouting.{CachedRouting}
 use Rattle.amr_config.specs.Stated.Config.{Config}
 use Rattle.amr_config.specs.Groups.{routing_to_cache, IsCacheOf, IsRoutingOf}
-
-same_of_some : {X : Type 0} (x y : X) → Some x ≡ Some y → x ≡ y
-same_of_some x y e = cc
-
-nothing_found : {X : Type 0} (x y : X) → None ≡ Some x → x ≡ y
-nothing_found x y e = absurd (cc)
 
 module _ {X : Type 0} (answer : LabelSet → X) where
   -- what a map gives for each label set that it has is the answer
@@ -23,16 +17,15 @@ module _ {X : Type 0} (answer : LabelSet → X) where
 
   pub gives_none : (cached : Map label_set_cmp X) → cached ≡ empty → Gives cached
   gives_none cached none labels found at =
-      nothing_found found _ (sym (ap (λ m. get m labels) none ∙ get-empty label_set_cmp labels) ∙ at)
+      absurd (none-some found (sym (ap (λ m. get m labels) none ∙ get-empty label_set_cmp labels) ∙ at))
 
   pub gives_more : (cached more : Map label_set_cmp X) (labels : LabelSet) (x : X) → Gives cached → x ≡ answer labels → more ≡ set cached labels (Some x) → Gives more
   gives_more cached more labels x is_cached is shows other found at =
-      let there = get-set label_set_cmp_total cached labels (Some x) other in
-      elim (label_set_cmp other labels) as (λ o. label_set_cmp other labels ≡ o → cond (is_eq o) (Some x) (get cached other) ≡ Some found → found ≡ answer other) [
-        | Less ↦ λ tie at. is_cached other found at
-        | Equal ↦ λ tie at. sym (same_of_some x found at) ∙ is ∙ ap answer (sym (label_set_cmp-IsAntisymmetric other labels tie))
-        | Greater ↦ λ tie at. is_cached other found at
-      ] refl (sym there ∙ ap (λ m. get m other) (sym shows) ∙ at)
+      go (eq_by_cmp label_set_cmp other labels) refl (sym (get-set label_set_cmp_total cached labels (Some x) other) ∙ ap (λ m. get m other) (sym shows) ∙ at)
+    where
+      go : (b : Bool) → eq_by_cmp label_set_cmp other labels ≡ b → cond b (Some x) (get cached other) ≡ Some found → found ≡ answer other
+      go true tie at = sym (same_Some x found at) ∙ is ∙ ap answer (sym (tells_apart label_set_cmp-IsAntisymmetric other labels tie))
+      go false tie at = is_cached other found at
 
   -- it is also the answer of another kind that always gives the same
   pub gives_same : (other : LabelSet → X) (cached : Map label_set_cmp X) → ((labels : LabelSet) → other labels ≡ answer labels) → ((labels : LabelSet) (found : X) → get cached labels ≡ Some found → found ≡ other labels) → Gives cached

@@ -3,7 +3,7 @@ use Rattle.std.proofs.Common.{◌≡◌, ◌≢◌, ℕ, ◌+◌, ◌<◌, ◌�
 use Rattle.std.specs.Prelude.{◌&&◌, ◌||◌, nat_lt, ◌==◌}
 use Rattle.std.specs.Option.{option_map_or}
 use Rattle.std.specs.List.{list_all, list_any, filter, range_with_len, slice_get}
-use Rattle.std.proofs.Math.Bool.{or-false, and-false}
+use Rattle.std.proofs.Math.Bool.{or-false, or-true, and-false}
 use Rattle.std.proofs.lemmas.Bool.{lt-ltb, le-ltb, ne_eqb, eq-eqb, cases_eq, and_parts}
 use Rattle.std.proofs.lemmas.Option.{none-some, same_Some, slice_get-get_or, slice_get_cases}
 use Rattle.std.proofs.lemmas.List.{same_lists, length-set, get_or-set_same, get_or-set_other}
@@ -24,10 +24,6 @@ use Rattle.amr_config.proofs.Ranges.{any_below, any_nowhere, any_none_below, any
 abbrev pub standing : Bool → Bool → Bool → Standing
 standing reached taken closed = record { is_open = reached; is_taken = taken; is_closed = closed }
 
-or_true : (b : Bool) → (b || true) ≡ true
-or_true true = refl
-or_true false = refl
-
 third_false : (a b c : Bool) → (((a && false) && b) && c) ≡ false
 third_false true b c = refl
 third_false false b c = refl
@@ -37,9 +33,6 @@ and_true true = refl
 and_true false = refl
 
 module _ (config : Config) (labels : LabelSet) (first : AreParentsFirst config) where
-  continues : ℕ → Bool
-  continues m = route_is (λ route. route.continues) config m
-
   cut_root : (n : ℕ) → parent_of config n ≡ None → is_cut_off config labels n ≡ false
   cut_root n e =
       any_nowhere _ (length config.routes) (λ m.
@@ -191,7 +184,7 @@ module _ (config : Config) (labels : LabelSet) (first : AreParentsFirst config) 
   taken_standing n parent e o cl mt c cont =
       let t : takes_from config labels parent n ≡ true = ap (λ b. b && matches_route config labels n) (is_parent n parent e) ∙ mt in
       let t' : list_any (takes_from config labels parent) (range_with_len 0 (n + 1)) ≡ true =
-      any_more (takes_from config labels parent) n ∙ ap (λ b. list_any (takes_from config labels parent) (range_with_len 0 n) || b) t ∙ or_true _ in
+      any_more (takes_from config labels parent) n ∙ ap (λ b. list_any (takes_from config labels parent) (range_with_len 0 n) || b) t ∙ or-true _ in
       let c' : list_any (closes config labels parent) (range_with_len 0 (n + 1)) ≡ not c =
       any_more (closes config labels parent) n ∙ ap (λ b. b || closes config labels parent n) cl
       ∙ ap (λ b. b && not (route_is (λ route. route.continues) config n)) t ∙ ap not (sym cont) in

@@ -13,16 +13,14 @@ use Rattle.amr_config.specs.Paths.{IsAlone, AreOwn}
 use Rattle.amr_config.specs.Receivers.{receiver_at, receiver_named, AreReceivers}
 use Rattle.amr_config.specs.Routing.{HasOwnPath, path_of, receiver_name_of}
 use Rattle.amr_config.specs.Settled.{settings_of, settings_of_all}
-use Rattle.amr_config.proofs.Inherited.{length-settled, get_or-settled, inherited_past}
+use Rattle.amr_config.proofs.Inherited.{get_or-settled, inherited_past}
+use Rattle.amr_config.proofs.Receivers.{as_many}
 use Rattle.amr_config.proofs.OwnPaths.{decides_too, decides_no}
 
 module _ (config : Config) (settings : List Settings) (are_settled : settings ≡ settings_of_all config) where
-  as_many : length settings ≡ length config.routes
-  as_many = ap length are_settled ∙ length-settled config
-
   its_settings : (n : ℕ) → n < length config.routes → slice_get settings n ≡ Some (settings_of config n)
   its_settings n there =
-      slice_get-get_or settings n (settings_of config n) (omega (arith, there, as_many))
+      slice_get-get_or settings n (settings_of config n) (omega (arith, there, as_many config settings are_settled))
       ∙ ap (λ s. Some s) (ap (λ ss. get_or ss n (settings_of config n)) are_settled ∙ get_or-settled config n (settings_of config n) there)
 
 module _ (config : Config) where

@@ -1,11 +1,10 @@
 -- Indexes of receivers and of time intervals by their names.
-use Rattle.std.proofs.Common.{◌≡◌, ℕ, ◌+◌, ◌<◌, cond, List, ◌∷◌, length, get_or, drop, Option, Some, refl, sym, ap, ◌∙◌, option_and_then}
+use Rattle.std.proofs.Common.{◌≡◌, ℕ, ◌+◌, ◌<◌, Bool, true, false, cond, List, ◌∷◌, length, get_or, drop, Option, Some, sym, ap, ◌∙◌, option_and_then}
 use Rattle.std.specs.Prelude.{slice_get}
 use Rattle.std.specs.BTreeMap as tree
 use Rattle.std.specs.BTreeMap.{BTreeMap}
 use Rattle.std.specs.List.{find}
 use Rattle.std.specs.Ordering.{eq_by_cmp, is_eq}
-use Rattle.std.specs.declared.cmp.Ordering.TheVariants.{Less, Equal, Greater}
 use Rattle.std.proofs.lemmas.List.{drop_more}
 use Rattle.std.proofs.lemmas.Option.{slice_get-get_or}
 use Rattle.amr_labels.specs.Labels.{Text, text_cmp}
@@ -24,13 +23,9 @@ module _ {X : Type 0} (name_of : X → Text) (items : List X) where
   pub indexes_more : (k from : ℕ) (item : X) (indexes more : BTreeMap Text ℕ) → from ≡ k + 1 → k < length items → item ≡ get_or items k item
       → AreIndexesFrom from indexes → tree.Updates text_cmp indexes more (name_of item) (Some k) → AreIndexesFrom k more
   indexes_more k from item indexes more next within at are up name =
-      let here : slice_get items k ≡ Some item = slice_get-get_or items k item within ∙ ap (λ r. Some r) (sym at) in
       let rest : drop k items ≡ item ∷ drop from items = drop_more items k item within ∙ (λ i. sym at i ∷ drop (sym next i) items) in
-      elim (text_cmp (name_of item) name) as (λ o. text_cmp (name_of item) name ≡ o → at_index (tree.get text_cmp more name) ≡ named (drop k items) name) [
-        | Less ↦ λ tie. ap at_index (up.0 name ∙ ap (λ o. cond (is_eq o) (Some k) (tree.get text_cmp indexes name)) tie) ∙ are name
-            ∙ sym (ap (λ rs. named rs name) rest ∙ ap (λ o. cond (is_eq o) (Some item) (named (drop from items) name)) tie)
-        | Equal ↦ λ tie. ap at_index (up.0 name ∙ ap (λ o. cond (is_eq o) (Some k) (tree.get text_cmp indexes name)) tie) ∙ here
-            ∙ sym (ap (λ rs. named rs name) rest ∙ ap (λ o. cond (is_eq o) (Some item) (named (drop from items) name)) tie)
-        | Greater ↦ λ tie. ap at_index (up.0 name ∙ ap (λ o. cond (is_eq o) (Some k) (tree.get text_cmp indexes name)) tie) ∙ are name
-            ∙ sym (ap (λ rs. named rs name) rest ∙ ap (λ o. cond (is_eq o) (Some item) (named (drop from items) name)) tie)
-      ] refl
+      ap at_index (up.0 name) ∙ either (is_eq (text_cmp (name_of item) name)) ∙ sym (ap (λ rs. named rs name) rest)
+    where
+      either : (b : Bool) → at_index (cond b (Some k) (tree.get text_cmp indexes name)) ≡ cond b (Some item) (named (drop from items) name)
+      either true = slice_get-get_or items k item within ∙ ap (λ r. Some r) (sym at)
+      either false = are name

@@ -1,12 +1,9 @@
 -- The line from a route up to the root.
-use Rattle.std.proofs.Common.{◌≡◌, ℕ, zero, suc, ◌<◌, ◌≤◌, List, [], ◌∷◌, Option, Some, None, refl, sym, ap, ◌∙◌, arith}
+use Rattle.std.proofs.Common.{◌≡◌, ℕ, zero, suc, ◌<◌, ◌≤◌, [], ◌∷◌, Option, Some, None, refl, sym, ap, ◌∙◌, arith}
 use Rattle.std.specs.Option.{option_map_or}
 use Rattle.amr_config.specs.Stated.Config.{Config}
 use Rattle.amr_config.specs.Routing.{parent_of, line_within, line_of}
 use Rattle.amr_config.specs.Settled.{AreParentsFirst}
-
-above : ℕ → Config → Option ℕ → List ℕ
-above most config o = option_map_or (λ parent. line_within most config parent) o []
 
 module _ (config : Config) (first : AreParentsFirst config) where
   same_above : (most other n : ℕ) (o : Option ℕ) → parent_of config n ≡ o → ((p : ℕ) → p < n → line_within most config p ≡ line_within other config p) → option_map_or (λ parent. line_within most config parent) o [] ≡ option_map_or (λ parent. line_within other config parent) o []

@@ -1,5 +1,5 @@
 -- The first route with each path, and which routes no other is like.
-use Rattle.std.proofs.Common.{◌≡◌, ℕ, zero, suc, ◌+◌, ◌-◌, ◌<◌, ◌≤◌, Bool, true, false, cond, List, [], ◌∷◌, ◌++◌, length, get_or, set, map, Option, Some, None, MatchOption, option_and_then, unwrap_or, refl, sym, ap, subst, ◌∙◌, ⊎_elim, arith}
+use Rattle.std.proofs.Common.{◌≡◌, ℕ, zero, suc, ◌+◌, ◌-◌, ◌<◌, ◌≤◌, Bool, true, false, true≢false, cond, List, [], ◌∷◌, ◌++◌, length, get_or, set, map, Option, Some, None, MatchOption, option_and_then, unwrap_or, refl, sym, ap, subst, ◌∙◌, ⊎_elim, arith}
 use Rattle.std.specs.Prelude.{IfSome}
 use Rattle.std.specs.Bool.{Decides}
 use Rattle.std.specs.BTreeMap as tree
@@ -15,6 +15,7 @@ use Rattle.std.specs.declared.cmp.Ordering.TheVariants.{Less, Equal, Greater}
 use Rattle.std.proofs.lemmas.Bool.{cases_eq, cases_order}
 use Rattle.std.proofs.lemmas.Cmp.{tied_itself, on_total, then_total}
 use Rattle.std.proofs.lemmas.List.{length-map, length-reverse, length-set, length_push, get_or_append_left, get_or_push, get_or-set_same, get_or-set_other, same_from_push}
+use Rattle.std.proofs.lemmas.Map.Views.{tells_apart}
 use Rattle.std.proofs.lemmas.Map.Lookups.{exact_pairs}
 use Rattle.std.proofs.lemmas.Option.{slice_get-get_or}
 use Rattle.amr_labels.specs.Matcher.Matchers.{Matcher, matcher_cmp, matcher_cmp_total, matcher_cmp-IsAntisymmetric}
@@ -210,14 +211,13 @@ module _ (config : Config) where
           subst (IsAnswered (limit + 1) other) (sym same) (answered_more other (value_at known other) sound apart (are other sound))
 
       pub known_more : AreKnown (limit + 1) more
-      known_more other sound =
-          elim (path_key_cmp key other) as (λ o. path_key_cmp key other ≡ o → IsAnswered (limit + 1) other (value_at more other)) [
-            | Less ↦ λ tie. others other sound (up other ∙ ap (λ o. cond (is_eq o) (Some first) (value_at known other)) tie) (λ same. let h = sym tie ∙ ap (path_key_cmp key) (sym same) ∙ tied_itself path_key_cmp_total key in absurd (cc))
-            | Equal ↦ λ tie. subst (IsAnswered (limit + 1) other)
-                (sym (up other ∙ ap (λ o. cond (is_eq o) (Some first) (value_at known other)) tie))
-                (record { within = omega (arith, like.within); same = like.same ∙ sym is.path ∙ ap path_of_key (keys_alike key other tie); is_first = like.is_first })
-            | Greater ↦ λ tie. others other sound (up other ∙ ap (λ o. cond (is_eq o) (Some first) (value_at known other)) tie) (λ same. let h = sym tie ∙ ap (path_key_cmp key) (sym same) ∙ tied_itself path_key_cmp_total key in absurd (cc))
-          ] refl
+      known_more other sound = go (is_eq (path_key_cmp key other)) refl (up other)
+        where
+          go : (b : Bool) → is_eq (path_key_cmp key other) ≡ b → value_at more other ≡ cond b (Some first) (value_at known other) → IsAnswered (limit + 1) other (value_at more other)
+          go true tie now = subst (IsAnswered (limit + 1) other) (sym now)
+              (record { within = omega (arith, like.within); same = like.same ∙ sym is.path ∙ ap path_of_key (tells_apart keys_alike key other tie); is_first = like.is_first })
+          go false tie now =
+              others other sound now (λ same. true≢false (sym (ap is_eq (ap (path_key_cmp key) (sym same) ∙ tied_itself path_key_cmp_total key)) ∙ tie))
 
   -- ---- the first routes tell which paths are of one route alone
 

@@ -3,13 +3,13 @@ use Rattle.std.proofs.Common.{◌≡◌, ℕ, ◌+◌, ◌<◌, ◌≤◌, Bool,
 use Rattle.std.specs.Prelude.{◌&&◌, ◌||◌, map}
 use Rattle.std.specs.Option.{unwrap_or}
 use Rattle.std.specs.List.{list_any}
-use Rattle.std.specs.declared.cmp.Ordering.TheVariants.{Less, Equal, Greater}
-use Rattle.std.specs.Ordering.{eq_by_cmp, is_eq}
+use Rattle.std.specs.Ordering.{eq_by_cmp}
 use Rattle.std.specs.Cmp.Lexicographic.{nat_list_cmp_total}
 use Rattle.std.proofs.Math.Bool.{or-true, or-false}
-use Rattle.std.proofs.lemmas.List.{take_all, take_more}
-use Rattle.std.proofs.lemmas.List.Folds.{list_any-append}
+use Rattle.std.proofs.lemmas.List.{take_all}
+use Rattle.std.proofs.lemmas.List.Folds.{list_any-append, list_any_more}
 use Rattle.std.proofs.lemmas.Cmp.{eq_by_cmp_equiv}
+use Rattle.std.proofs.lemmas.Map.Views.{tells_apart}
 use Rattle.amr_labels.specs.Labels.{Text, text_cmp, text_cmp-IsAntisymmetric, LabelSet, value_of}
 use Rattle.amr_labels.specs.Map.{retain_keys, get, get-retain_keys}
 use Rattle.amr_labels.specs.Matcher.Matchers.{Matcher, compares, all_hold}
@@ -54,9 +54,7 @@ or_twice false b c = refl
 
 -- one more element of a list is asked
 pub any_with_next : {X : Type 0} (p : X → Bool) (xs : List X) (k : ℕ) (x : X) → k < length xs → x ≡ get_or xs k x → list_any p (take (k + 1) xs) ≡ (list_any p (take k xs) || p x)
-any_with_next p xs k x within is =
-    ap (list_any p) (take_more xs k x within) ∙ list_any-append p (take k xs) (get_or xs k x ∷ [])
-    ∙ ap (λ y. list_any p (take k xs) || (p y || false)) (sym is) ∙ ap (λ b. list_any p (take k xs) || b) (or-false (p x))
+any_with_next p xs k x within is = list_any_more p xs k x within ∙ ap (λ y. list_any p (take k xs) || p y) (sym is)
 
 -- a name that is added
 pub among_more : (names : List Text) (name other : Text) → is_among (names ++ name ∷ []) other ≡ (is_among names other || eq_by_cmp text_cmp other name)
@@ -65,12 +63,11 @@ among_more names name other =
 
 -- a name that is there already
 pub among_already : (names : List Text) (name other : Text) → is_among names name ≡ true → is_among names other ≡ (is_among names other || eq_by_cmp text_cmp other name)
-among_already names name other there =
-    elim (text_cmp other name) as (λ o. text_cmp other name ≡ o → is_among names other ≡ (is_among names other || is_eq o)) [
-      | Less ↦ λ tie. sym (or-false (is_among names other))
-      | Equal ↦ λ tie. ap (is_among names) (text_cmp-IsAntisymmetric other name tie) ∙ there ∙ sym (or-true (is_among names other))
-      | Greater ↦ λ tie. sym (or-false (is_among names other))
-    ] refl
+among_already names name other there = go (eq_by_cmp text_cmp other name) refl
+  where
+    go : (b : Bool) → eq_by_cmp text_cmp other name ≡ b → is_among names other ≡ (is_among names other || b)
+    go true tie = ap (is_among names) (tells_apart text_cmp-IsAntisymmetric other name tie) ∙ there ∙ sym (or-true (is_among names other))
+    go false tie = sym (or-false (is_among names other))
 
 -- the names of one more matcher
 pub matcher_more : (old names more : List Text) (matchers : List Matcher) (k : ℕ) (m : Matcher) (name : Text) → k < length matchers → m ≡ get_or matchers k m → is_among names name ≡ (is_among old name || is_named (take k matchers) name) → is_among more name ≡ (is_among names name || eq_by_cmp text_cmp name m.name) → is_among more name ≡ (is_among old name || is_named (take (k + 1) matchers) name)

@@ -19,9 +19,8 @@ above : (a b : Matcher) → matcher_cmp a b ≡ Less → is_gt (matcher_cmp b a)
 above a b e = ap is_gt (turned a b ∙ ap ordering_reverse e)
 
 below : (o : Ordering) → is_gt o ≡ true → ordering_reverse o ≡ Less
-below Less e = absurd (true≢false (sym e))
-below Equal e = absurd (true≢false (sym e))
 below Greater e = refl
+below o e = absurd (true≢false (sym e))
 
 -- what is above the greater of two is above the lesser
 above_both : (a b m : Matcher) → matcher_cmp a b ≡ Less → is_gt (matcher_cmp m b) ≡ true → is_gt (matcher_cmp m a) ≡ true

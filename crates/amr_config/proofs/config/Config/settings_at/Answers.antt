@@ -1,13 +1,11 @@
-use Rattle.std.proofs.Common.{◌≡◌, ap, ◌∙◌}
 use Rattle.amr_config.specs.Settled.{config_of_parts}
 use Rattle.amr_config.proofs.Inherited.{settings_found}
 use Rattle.amr_config.proofs.config.Config.settings_at.Goals as goal
 
 pub returns-clause-found : goal.returns-clause-found
 returns-clause-found c =
-    let parts = c.self.inside.shared.value in
-    let same : c.as_slice.result.now ≡ parts.settings = c.as_slice.ensures ∙ ap (λ p. p.settings) c.deref.ensures in
-    rw (← c.self.view_is) (settings_found (config_of_parts parts) c.as_slice.result.now c.args.route c.get.result (same ∙ c.self.invariant.settings) c.get.ensures.lookup)
+    rw (← c.self.view_is) (settings_found (config_of_parts c.self.inside.shared.value) c.as_slice.result.now c.args.route c.get.result
+    (rw (c.as_slice.ensures, c.deref.ensures) c.self.invariant.settings) c.get.ensures.lookup)
 
 pub returns-clause-parents : goal.returns-clause-parents
 returns-clause-parents c = rw (← c.self.view_is) c.self.invariant.parents
