@@ -3,7 +3,7 @@ use Rattle.std.proofs.Math.Nat.{eq-or-lt_of_le}
 use Rattle.std.proofs.Common.{◌≡◌, inl, inr, ℕ, zero, suc, ◌+◌, ◌<◌, ◌≤◌, List, [], ◌∷◌, ◌++◌, length, Option, Some, None, Ok, codes, refl, sym, ap, ◌∙◌, arith, append_assoc}
 use Rattle.std.specs.Option.{option_map_or}
 use Rattle.std.specs.List.{slice_get}
-use Rattle.std.proofs.lemmas.Option.{none-some}
+use Rattle.std.proofs.lemmas.Option.{none-some, same_Some}
 use Rattle.std.proofs.lemmas.List.{length_push, append-nil}
 use Rattle.serde_json.specs.Data.{Data, Items, no_items, item}
 use Rattle.amr_config.specs.declared.stated.route.Route.{Route}
@@ -14,6 +14,7 @@ use Rattle.amr_config.specs.Read.Readings.{items_in_turn}
 use Rattle.amr_config.specs.Read.RouteParts.{children_at}
 use Rattle.amr_config.specs.Read.ReadRoutes.{own_into, add_route, child_into, tree_from, routes_at}
 use Rattle.amr_config.specs.Read.Walking.{walked_at}
+use Rattle.amr_config.specs.Settled.{AreParentsFirst, stated_config}
 use Rattle.amr_config.proofs.ReadLemmas.Preorder.{ok_same, bind_ok, own_adds, found_ok, was_walked}
 
 abbrev pub parent_at : List Route → ℕ → Option ℕ
@@ -172,3 +173,25 @@ pub walked_tree : (d : Data) (stated : Stated) → (walked_at d).value ≡ Ok st
 walked_tree d stated e =
     let adds = routes_add d stated.routes (was_walked d stated e).routes in
     record { some = adds.longer; root = adds.has; linked = adds.linked }
+
+-- ---- each parent comes before its children
+
+-- what is above a route has no greater number, if each parent up to the route has a lesser one than its child
+above_within : (routes : List Route) (n above : ℕ) → ((m parent : ℕ) → m ≤ n → parent_at routes m ≡ Some parent → parent < m) → IsAbove routes n above → above ≤ n
+above_within routes _ _ first (Itself n) = omega arith
+above_within routes _ _ first (Further n parent above e up) =
+    let less = first n parent (omega arith) e in
+    let le = above_within routes parent above (λ m p h. first m p (omega (arith, h, less))) up in
+    omega (arith, less, le)
+
+parent_before : (routes : List Route) → IsTree routes → (most n parent : ℕ) → n < most → parent_at routes n ≡ Some parent → parent < n
+parent_before routes tree zero n parent lt e = omega (arith, lt)
+parent_before routes tree (suc most) zero parent lt e = absurd (none-some parent (sym tree.root ∙ e))
+parent_before routes tree (suc most) (suc n) parent lt e =
+    let (p, is, up) = tree.linked n (parent_within routes (suc n) parent e) in
+    let same : p ≡ parent = same_Some p parent (sym is ∙ e) in
+    let le = above_within routes n p (λ m q h. parent_before routes tree most m q (omega (arith, h, lt))) up in
+    omega (arith, same, le)
+
+pub parents_first : (d : Data) (stated : Stated) → (walked_at d).value ≡ Ok stated → AreParentsFirst (stated_config stated)
+parents_first d stated e n parent up = parent_before stated.routes (walked_tree d stated e) (n + 1) n parent (omega arith) up

@@ -18,7 +18,7 @@ use Rattle.amr_config.specs.declared.stated.stated.Stated.{Stated}
 use Rattle.amr_config.specs.Read.Readings.{plain, next}
 use Rattle.amr_config.specs.Read.RouteParts.{is_too_deep}
 use Rattle.amr_config.specs.Read.Walking.{walked_at}
-use Rattle.amr_config.proofs.ReadLemmas.Preorder.{ok_same, bind_ok, parents_first}
+use Rattle.amr_config.proofs.ReadLemmas.Preorder.{ok_same, bind_ok}
 use Rattle.amr_config.specs.Stated.Config.{Config}
 use Rattle.amr_config.specs.Routing.{parent_of, line_of}
 use Rattle.amr_config.specs.Settled.{stated_config, AreParentsFirst}
@@ -28,7 +28,7 @@ use Rattle.amr_config.specs.Read.Reading.{unless_refused, reading_of, config_of}
 use Rattle.amr_config.specs.Read.ReadLaws.{RoutesAreInPreorder, ReadConfigsAreWhole}
 use Rattle.amr_config.proofs.Lines.{line_of-root, line_of-child}
 use Rattle.amr_config.proofs.ReadLemmas.NameSets.{named_apart}
-use Rattle.amr_config.proofs.ReadLemmas.TreeOrder.{IsAbove, Itself, Further, IsTree, walked_tree, parent_within}
+use Rattle.amr_config.proofs.ReadLemmas.TreeOrder.{IsAbove, Itself, Further, IsTree, walked_tree, parent_within, parents_first}
 use Rattle.std.proofs.lemmas.Option.{same_Some, none-some}
 
 -- what was parsed for a configuration, and was validated

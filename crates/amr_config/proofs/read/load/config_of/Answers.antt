@@ -1,5 +1,5 @@
 use Rattle.serde_json.specs.View.{view}
-use Rattle.amr_config.proofs.ReadLemmas.Preorder.{parents_first}
+use Rattle.amr_config.proofs.ReadLemmas.TreeOrder.{parents_first}
 use Rattle.amr_config.proofs.read.load.config_of.Goals as goal
 
 pub from_stated-requires : goal.from_stated-requires
