@@ -91,14 +91,6 @@ same_cached a b alike labels =
     let groups = same_groups a b alike.routes labels in
     λ i. record { labels = labels; groups = groups i; rules = rules i }
 
--- ---- lists whose elements are alike, one by one
-
-module _ {X Y : Type 0} (f : X → Y) (xs ys : List X) (k : ℕ) (x y : X) (within : k < length xs) (within_other : k < length ys) (x_is : x ≡ get_or xs k x) (y_is : y ≡ get_or ys k y) where
-  pub alike_at : map f xs ≡ map f ys → f x ≡ f y
-  alike_at same =
-      ap f x_is ∙ sym (get_or-map f xs k x (f x) within) ∙ ap (λ zs. get_or zs k (f x)) same
-      ∙ get_or-map f ys k y (f x) within_other ∙ ap f (sym y_is)
-
 -- ---- tests of two parts
 
 pub second_decides : {P Q R : Type 0} (s : Bool) → P → Decides s Q → (P → Q → R) → (R → Q) → Decides s R
@@ -106,6 +98,17 @@ second_decides s first second make part = (λ yes. make first (second.0 yes), λ
 
 pub first_fails : {P R : Type 0} (v r : Bool) → Decides r P → (R → P) → r ≡ false → v ≡ false → Decides v R
 first_fails v r first part fails is = (λ yes. absurd (false≢true (sym is ∙ yes)), λ r. absurd (false≢true (sym fails ∙ first.1 (part r))))
+
+-- ---- lists whose elements are alike, one by one
+
+module _ {X Y : Type 0} (f : X → Y) (xs ys : List X) (k : ℕ) (x y : X) (within : k < length xs) (within_other : k < length ys) (x_is : x ≡ get_or xs k x) (y_is : y ≡ get_or ys k y) where
+  alike_at : map f xs ≡ map f ys → f x ≡ f y
+  alike_at same =
+      ap f x_is ∙ sym (get_or-map f xs k x (f x) within) ∙ ap (λ zs. get_or zs k (f x)) same
+      ∙ get_or-map f ys k y (f x) within_other ∙ ap f (sym y_is)
+
+  pub unlike_at : (r : Bool) → Decides r (f x ≡ f y) → r ≡ false → Decides false (map f xs ≡ map f ys)
+  unlike_at r alike fails = first_fails false r alike alike_at fails refl
 
 -- values that compare as equal are the same
 pub tie_decides : {K : Type 0} {R : K → K → Ordering} → IsTotalOrder R → IsAntisymmetric R → (x y : K) → Decides (eq_by_cmp R x y) (x ≡ y)

@@ -20,12 +20,13 @@ module _ {X : Type 0} (name_of : X → Text) (items : List X) where
   abbrev AreIndexesFrom : ℕ → BTreeMap Text ℕ → Type 0
   AreIndexesFrom from indexes = (name : Text) → at_index (tree.get text_cmp indexes name) ≡ named (drop from items) name
 
-  pub indexes_more : (k from : ℕ) (item : X) (indexes more : BTreeMap Text ℕ) → from ≡ k + 1 → k < length items → item ≡ get_or items k item
-      → AreIndexesFrom from indexes → tree.Updates text_cmp indexes more (name_of item) (Some k) → AreIndexesFrom k more
-  indexes_more k from item indexes more next within at are up name =
+  pub indexes_more : (k from : ℕ) (item : X) (name : Text) (indexes more : BTreeMap Text ℕ) → name ≡ name_of item → from ≡ k + 1 → k < length items → item ≡ get_or items k item
+      → AreIndexesFrom from indexes → tree.Updates text_cmp indexes more name (Some k) → AreIndexesFrom k more
+  indexes_more k from item name indexes more named_so next within at are up other =
       let rest : drop k items ≡ item ∷ drop from items = drop_more items k item within ∙ (λ i. sym at i ∷ drop (sym next i) items) in
-      ap at_index (up.0 name) ∙ either (is_eq (text_cmp (name_of item) name)) ∙ sym (ap (λ rs. named rs name) rest)
+      ap at_index (up.0 other) ∙ either (is_eq (text_cmp name other))
+      ∙ (λ i. cond (is_eq (text_cmp (named_so i) other)) (Some item) (named (drop from items) other)) ∙ sym (ap (λ rs. named rs other) rest)
     where
-      either : (b : Bool) → at_index (cond b (Some k) (tree.get text_cmp indexes name)) ≡ cond b (Some item) (named (drop from items) name)
+      either : (b : Bool) → at_index (cond b (Some k) (tree.get text_cmp indexes other)) ≡ cond b (Some item) (named (drop from items) other)
       either true = slice_get-get_or items k item within ∙ ap (λ r. Some r) (sym at)
-      either false = are name
+      either false = are other

@@ -14,13 +14,8 @@ use Rattle.amr_config.specs.Read.ReadRules.{rules_at}
 use Rattle.amr_config.specs.Read.ReadRoutes.{route_at, own_into, add_route, tree_from, routes_at}
 use Rattle.amr_config.specs.Read.Walking.{walked_at}
 
-value_or : {A : Type 0} → A → Result A Refusal → A
-value_or d (Ok x) = x
-value_or d (Err e) = d
-
 pub ok_same : {A : Type 0} (x y : A) → ◌≡◌ {A = Result A Refusal} (Ok x) (Ok y) → x ≡ y
-unfolding value_or
-ok_same x y e = ap (value_or x) e
+ok_same x y e = cc
 
 pub after_ok : {A B : Type 0} (r : Result A Refusal) (f : A → Reading B) (b : B) → value_after r f ≡ Ok b → (a : A) × (r ≡ Ok a) × ((f a).value ≡ Ok b)
 after_ok (Ok a) f b e = (a, refl, e)

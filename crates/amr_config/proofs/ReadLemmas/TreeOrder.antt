@@ -177,11 +177,11 @@ walked_tree d stated e =
 -- ---- each parent comes before its children
 
 -- what is above a route has no greater number, if each parent up to the route has a lesser one than its child
-above_within : (routes : List Route) (n above : ℕ) → ((m parent : ℕ) → m ≤ n → parent_at routes m ≡ Some parent → parent < m) → IsAbove routes n above → above ≤ n
-above_within routes _ _ first (Itself n) = omega arith
-above_within routes _ _ first (Further n parent above e up) =
+above_within : (routes : List Route) (n above : ℕ) → IsAbove routes n above → ((m parent : ℕ) → m ≤ n → parent_at routes m ≡ Some parent → parent < m) → above ≤ n
+above_within routes _ _ (Itself n) first = omega arith
+above_within routes _ _ (Further n parent above e up) first =
     let less = first n parent (omega arith) e in
-    let le = above_within routes parent above (λ m p h. first m p (omega (arith, h, less))) up in
+    let le = above_within routes parent above up (λ m p h. first m p (omega (arith, h, less))) in
     omega (arith, less, le)
 
 parent_before : (routes : List Route) → IsTree routes → (most n parent : ℕ) → n < most → parent_at routes n ≡ Some parent → parent < n
@@ -190,7 +190,7 @@ parent_before routes tree (suc most) zero parent lt e = absurd (none-some parent
 parent_before routes tree (suc most) (suc n) parent lt e =
     let (p, is, up) = tree.linked n (parent_within routes (suc n) parent e) in
     let same : p ≡ parent = same_Some p parent (sym is ∙ e) in
-    let le = above_within routes n p (λ m q h. parent_before routes tree most m q (omega (arith, h, lt))) up in
+    let le = above_within routes n p up (λ m q h. parent_before routes tree most m q (omega (arith, h, lt))) in
     omega (arith, same, le)
 
 pub parents_first : (d : Data) (stated : Stated) → (walked_at d).value ≡ Ok stated → AreParentsFirst (stated_config stated)
