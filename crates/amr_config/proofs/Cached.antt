@@ -2,13 +2,16 @@
 use Rattle.std.proofs.Common.{arith, ◌≡◌, ℕ, Bool, true, false, List, Bor, cond, Option, None, Some, refl, sym, ap, subst, ◌∙◌}
 use Rattle.std.specs.Ordering.{eq_by_cmp}
 use Rattle.std.specs.Slice.{IsItemAt}
+use Rattle.std.proofs.lemmas.List.Elements.{All-weaker}
 use Rattle.std.proofs.lemmas.Option.{none-some, same_Some}
 use Rattle.std.proofs.lemmas.Map.Views.{tells_apart}
 use Rattle.amr_labels.specs.Labels.{LabelSet, label_set_cmp, label_set_cmp_total, label_set_cmp-IsAntisymmetric}
 use Rattle.amr_labels.specs.Map.{Map, empty, get, set, get-empty, get-set}
 use Rattle.amr_config.specs.declared.router.CachedRouting.{CachedRouting}
+use Rattle.amr_config.specs.declared.stated.rule_sides.RuleMatch.{RuleMatch}
 use Rattle.amr_config.specs.Stated.Config.{Config}
-use Rattle.amr_config.specs.Groups.{routing_to_cache, IsCacheOf, IsRoutingOf}
+use Rattle.amr_config.specs.Stated.RuleMatches.{rule_matches}
+use Rattle.amr_config.specs.Groups.{routing_to_cache, IsCacheOf, IsRoutingOf, AreSides}
 
 module _ {X : Type 0} (answer : LabelSet → X) where
   -- what a map gives for each label set that it has is the answer
@@ -28,13 +31,20 @@ module _ {X : Type 0} (answer : LabelSet → X) where
       go false tie at = is_cached other found at
 
   -- it is also the answer of another kind that always gives the same
-  pub gives_same : (other : LabelSet → X) (cached : Map label_set_cmp X) → ((labels : LabelSet) → other labels ≡ answer labels) → ((labels : LabelSet) (found : X) → get cached labels ≡ Some found → found ≡ other labels) → Gives cached
+  gives_same : (other : LabelSet → X) (cached : Map label_set_cmp X) → ((labels : LabelSet) → other labels ≡ answer labels) → ((labels : LabelSet) (found : X) → get cached labels ≡ Some found → found ≡ other labels) → Gives cached
   gives_same other cached same is_cached labels found at = is_cached labels found at ∙ same labels
 
 -- what is cached at a place is so under any configuration that routes alike
-pub same_routing : (here there : Config) → ((labels : LabelSet) → routing_to_cache there labels ≡ routing_to_cache here labels) → (place : Option CachedRouting) → IsRoutingOf there place → IsRoutingOf here place
+same_routing : (here there : Config) → ((labels : LabelSet) → routing_to_cache there labels ≡ routing_to_cache here labels) → (place : Option CachedRouting) → IsRoutingOf there place → IsRoutingOf here place
 same_routing here there same None is = tt
 same_routing here there same (Some cached) is = is ∙ same cached.labels
+
+-- what is cached under a configuration is so under one that routes alike
+pub cached_alike : (here there : Config) → ((labels : LabelSet) → routing_to_cache there labels ≡ routing_to_cache here labels) → (cache : List (Option CachedRouting)) (sides : Map label_set_cmp (List RuleMatch)) → IsCacheOf there cache × AreSides there sides → IsCacheOf here cache × AreSides here sides
+cached_alike here there same cache sides are = (
+  All-weaker (IsRoutingOf there) (IsRoutingOf here) (same_routing here there same) cache are.0,
+  gives_same (λ labels. rule_matches labels here.rules) (λ labels. rule_matches labels there.rules) sides (λ labels. ap (λ k. k.rules) (same labels)) are.1,
+)
 
 -- what is found at a place of the labels that it was worked out of
 pub routing_found : (config : Config) (cache : List (Option CachedRouting)) (n : ℕ) (place : Bor (Option CachedRouting)) (cached : CachedRouting) (labels : LabelSet) → IsCacheOf config cache
