@@ -8,17 +8,17 @@ use Rattle.std.proofs.lemmas.Option.{none-some, same_Some}
 use Rattle.serde_json.specs.Find.{get, get_member}
 use Rattle.amr_config.specs.Read.Members.{member_of}
 use Rattle.std.proofs.Common.{◌≡◌, inl, inr, ◌⊎◌, ◌≢◌, ℕ, ◌+◌, ◌-◌, ◌<◌, Bool, true, false, true≢false, not, if◌then◌else◌, List, [], ◌∷◌, ◌++◌, length, take, drop, Option, Some, None, Ok, refl, sym, ap, ◌∙◌, arith, append_assoc, codes}
+use Rattle.std.proofs.lemmas.Cmp.{tied_itself}
 use Rattle.std.proofs.lemmas.Bool.{and_from}
 use Rattle.std.proofs.lemmas.List.{append-nil, take-append-drop}
 use Rattle.std.proofs.lemmas.List.Folds.{list_all-append}
 use Rattle.std.specs.List.{list_all}
 use Rattle.std.specs.Cmp.Lexicographic.{nat_list_cmp_total, same_text}
-use Rattle.std.specs.FinMap.{slice_cmp-IsAntisymmetric, nat_cmp-IsAntisymmetric}
 use Rattle.std.specs.Ordering.{nat_cmp, ordering_then, is_gt, is_lt, match_ordering}
 use Rattle.std.specs.declared.cmp.Ordering.{Ordering}
 use Rattle.std.specs.declared.cmp.Ordering.TheVariants.{Less, Equal, Greater}
 use Rattle.serde_json.specs.Data.{Data, null, array, object, Items, no_items, item, Members, no_members, member}
-use Rattle.amr_labels.specs.Labels.{Text, text_cmp}
+use Rattle.amr_labels.specs.Labels.{Text, text_cmp, text_cmp-IsAntisymmetric}
 use Rattle.amr_config.specs.declared.stated.receiver.Integration.{Integration}
 use Rattle.amr_config.specs.declared.stated.receiver.Receiver.{Receiver}
 use Rattle.amr_config.specs.Read.Members.{unless_null, optional, optional_member, required_member, or_faulty, flag_at, items_at, members_at}
@@ -55,24 +55,13 @@ each_with P (x ∷ xs) kind entries h new = go (each_with P xs kind entries h.1 
 
 -- ---- texts
 
-equal_texts : (a b : Text) → text_cmp a b ≡ Equal → a ≡ b
-equal_texts = slice_cmp-IsAntisymmetric nat_cmp-IsAntisymmetric
-
 below_other : (a b : Text) → text_cmp a b ≡ Greater → text_cmp b a ≡ Less
 below_other a b e = nat_list_cmp_total.antisymm b a ∙ ap ordering_reverse e
-
-itself_equal : (a : Text) → text_cmp a a ≡ Equal
-itself_equal a = go (text_cmp a a) (nat_list_cmp_total.antisymm a a)
-  where
-    go : (o : Ordering) → o ≡ ordering_reverse o → o ≡ Equal
-    go Less e = cc
-    go Equal e = refl
-    go Greater e = cc
 
 less_apart : (a b : Text) → text_cmp a b ≡ Less → a ≢ b
 less_apart a b less same =
     let at : text_cmp b b ≡ Less = rw same at less in
-    let equal = itself_equal b in
+    let equal : text_cmp b b ≡ Equal = tied_itself nat_list_cmp_total b in
     cc
 
 -- ---- the entries of a kind
@@ -146,7 +135,7 @@ by_kind x y less = ap (λ o. ordering_then o (nat_cmp x.place y.place)) less
 
 by_place : (x y : Integration) → x.kind ≡ y.kind → x.place < y.place → integration_cmp x y ≡ Less
 by_place x y same lt =
-    let kinds : text_cmp x.kind y.kind ≡ Equal = rw same (itself_equal y.kind) in
+    let kinds : text_cmp x.kind y.kind ≡ Equal = rw same (tied_itself nat_list_cmp_total y.kind) in
     ap (λ o. ordering_then o (nat_cmp x.place y.place)) kinds ∙ sym (nat_cmp_is x.place y.place Less lt)
 
 after_place : (kind : Text) (x : Integration) (i : ℕ) (xs : List Integration) → x.kind ≡ kind → x.place < i → Placed kind i xs → Each (λ y. integration_cmp x y ≡ Less) xs
@@ -174,7 +163,7 @@ below_later kind x y less before = go (text_cmp x.kind y.kind) refl before
   where
     go : (o : Ordering) → text_cmp x.kind y.kind ≡ o → ordering_then o (nat_cmp x.place y.place) ≡ Less → text_cmp kind y.kind ≡ Less
     go Less is h = nat_list_cmp_total.trans kind x.kind y.kind less is
-    go Equal is h = rw (← equal_texts x.kind y.kind is) less
+    go Equal is h = rw (← text_cmp-IsAntisymmetric x.kind y.kind is) less
     go Greater is h = cc
 
 rising_with : (xs : List Integration) (kind : Text) (entries : List Integration) → Rising xs → Placed kind 0 entries → Each (λ x. x.kind ≢ kind) xs → Rising (with_entries xs kind entries)
@@ -183,7 +172,7 @@ rising_with (x ∷ xs) kind entries rising placed apart = go (rising_with xs kin
   where
     go : Rising (with_entries xs kind entries) → (o : Ordering) → text_cmp x.kind kind ≡ o → Rising (if is_gt o then entries ++ x ∷ xs else x ∷ with_entries xs kind entries)
     go rest Less is = (each_with (λ y. integration_cmp x y ≡ Less) xs kind entries rising.0 (after_kind x.kind x kind 0 entries refl is placed), rest)
-    go rest Equal is = absurd (apart.0 (equal_texts x.kind kind is))
+    go rest Equal is = absurd (apart.0 (text_cmp-IsAntisymmetric x.kind kind is))
     go rest Greater is =
         let less = below_other x.kind kind is in
         let above : Each (λ y. text_cmp kind y.kind ≡ Less) (x ∷ xs) = (less, each_map (λ y. integration_cmp x y ≡ Less) (λ y. text_cmp kind y.kind ≡ Less) xs (λ y h. below_later kind x y less h) rising.0) in

@@ -6,13 +6,12 @@ use Rattle.std.specs.Option.{option_or, option_map_or}
 use Rattle.std.proofs.lemmas.List.Elements.{Contains-append_left, Contains-append_right, Contains-append_cases}
 use Rattle.std.proofs.lemmas.List.{take-append-drop}
 use Rattle.std.proofs.lemmas.Option.{none-some, same_Some}
-use Rattle.std.specs.FinMap.{slice_cmp-IsAntisymmetric, nat_cmp-IsAntisymmetric}
 use Rattle.std.specs.Ordering.{match_ordering}
 use Rattle.std.specs.declared.cmp.Ordering.{Ordering}
 use Rattle.std.specs.declared.cmp.Ordering.TheVariants.{Less, Equal, Greater}
 use Rattle.serde_json.specs.Data.{Data, null, Items, no_items, item, Members, no_members, member}
 use Rattle.serde_json.specs.Find.{as_array, as_object, get_item}
-use Rattle.amr_labels.specs.Labels.{Text, text_cmp}
+use Rattle.amr_labels.specs.Labels.{Text, text_cmp, text_cmp-IsAntisymmetric}
 use Rattle.amr_config.specs.declared.stated.receiver.Integration.{Integration}
 use Rattle.amr_config.specs.Read.Paths.{under, item_path}
 use Rattle.amr_config.specs.Read.Members.{unless_null, member_of, or_faulty, flag_at}
@@ -291,7 +290,7 @@ on_a_side key name is = go (text_cmp key (codes "name")) refl
   where
     go : (o : Ordering) → text_cmp key (codes "name") ≡ o → (match_ordering o true false (not true) ≡ true) ⊎ (match_ordering o false false (not false) ≡ true)
     go Less e = inl refl
-    go Equal e = absurd (not_the_name key name is (slice_cmp-IsAntisymmetric nat_cmp-IsAntisymmetric key (codes "name") e))
+    go Equal e = absurd (not_the_name key name is (text_cmp-IsAntisymmetric key (codes "name") e))
     go Greater e = inr refl
 
 none_of : (whole : Members) → AllOf whole []
