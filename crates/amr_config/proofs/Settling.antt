@@ -11,7 +11,7 @@ use Rattle.amr_config.specs.declared.stated.route.Route.{Route}
 use Rattle.amr_config.specs.declared.settings.Settings.{Settings}
 use Rattle.amr_config.specs.Stated.Config.{Config}
 use Rattle.amr_config.specs.declared.defaults.TheConstants.{GROUP_WAIT_SECONDS, GROUP_INTERVAL_MINUTES, REPEAT_INTERVAL_HOURS}
-use Rattle.amr_config.specs.Routing.{parent_of, line_of, first_stated, inherited_value, receiver_name_of, active_intervals_of, mute_intervals_of, path_of, sorted_matchers}
+use Rattle.amr_config.specs.Routing.{parent_of, line_of, first_stated, inherited_value, receiver_name_of, path_of, sorted_matchers}
 use Rattle.amr_config.specs.Receivers.{receiver_parent}
 use Rattle.amr_config.specs.Settled.{settings_of, settings_of_all, settled_to, settled_under, AreParentsFirst}
 use Rattle.amr_config.proofs.Lines.{line_of-root, line_of-child}
@@ -51,20 +51,11 @@ module _ (config : Config) (first : AreParentsFirst config) (n : ℕ) (route : R
   value_child : {X : Type 0} (field : Route → Option X) (d : X) (parent : ℕ) → parent_of config n ≡ Some parent → unwrap_or (field route) (unwrap_or (inherited_value field config parent) d) ≡ unwrap_or (inherited_value field config n) d
   value_child field d parent e = sym (ap (λ o. unwrap_or o d) (inherited_child field parent e) ∙ stated_or (field route) (inherited_value field config parent) d)
 
-  own_matchers : route.matchers ≡ option_map_or (λ (r : Route). r.matchers) (slice_get config.routes n) []
-  own_matchers = sym (ap (λ o. option_map_or (λ (r : Route). r.matchers) o []) here)
-
-  own_continues : route.continues ≡ option_map_or (λ (r : Route). r.continues) (slice_get config.routes n) false
-  own_continues = sym (ap (λ o. option_map_or (λ (r : Route). r.continues) o false) here)
-
-  own_active : route.active_time_intervals ≡ active_intervals_of config n
-  own_active = sym (ap (λ o. option_map_or (λ (r : Route). r.active_time_intervals) o []) here)
-
-  own_mute : route.mute_time_intervals ≡ mute_intervals_of config n
-  own_mute = sym (ap (λ o. option_map_or (λ (r : Route). r.mute_time_intervals) o []) here)
+  own : {X : Type 0} (field : Route → X) (d : X) → field route ≡ option_map_or field (slice_get config.routes n) d
+  own field d = sym (ap (λ o. option_map_or field o d) here)
 
   own_parent : route.parent ≡ parent_of config n
-  own_parent = sym (ap (λ o. option_map_or (λ (r : Route). r.parent) o None) here)
+  own_parent = own (λ r. r.parent) None
 
   heir_by : (stated : Option Text) → route.receiver ≡ stated → (parent : ℕ) → option_map_or (λ name. None) stated route.parent ≡ Some parent → (parent < n) × (receiver_name_of config parent ≡ receiver_name_of config n)
   heir_by None is parent e =
@@ -85,7 +76,7 @@ module _ (config : Config) (first : AreParentsFirst config) (n : ℕ) (route : R
       let group_interval = value_root (λ r. r.group_interval) (GROUP_INTERVAL_MINUTES * minute) e in
       let repeat_interval = value_root (λ r. r.repeat_interval) (REPEAT_INTERVAL_HOURS * hour) e in
       let path = sym (path_root e) in
-      λ i. record { parent = own_parent i; matchers = own_matchers i; continues = own_continues i; receiver = receiver i; group_by = group_by i; group_wait = group_wait i; group_interval = group_interval i; repeat_interval = repeat_interval i; active_time_intervals = own_active i; mute_time_intervals = own_mute i; path = path i }
+      λ i. record { parent = own_parent i; matchers = own (λ r. r.matchers) [] i; continues = own (λ r. r.continues) false i; receiver = receiver i; group_by = group_by i; group_wait = group_wait i; group_interval = group_interval i; repeat_interval = repeat_interval i; active_time_intervals = own (λ r. r.active_time_intervals) [] i; mute_time_intervals = own (λ r. r.mute_time_intervals) [] i; path = path i }
 
   settings_child : (parent : ℕ) → parent_of config n ≡ Some parent → settled_under route (Some (settings_of config parent)) ≡ settings_of config n
   unfolding settled_under settings_of
@@ -96,7 +87,7 @@ module _ (config : Config) (first : AreParentsFirst config) (n : ℕ) (route : R
       let group_interval = value_child (λ r. r.group_interval) (GROUP_INTERVAL_MINUTES * minute) parent e in
       let repeat_interval = value_child (λ r. r.repeat_interval) (REPEAT_INTERVAL_HOURS * hour) parent e in
       let path = sym (path_child parent e) in
-      λ i. record { parent = own_parent i; matchers = own_matchers i; continues = own_continues i; receiver = receiver i; group_by = group_by i; group_wait = group_wait i; group_interval = group_interval i; repeat_interval = repeat_interval i; active_time_intervals = own_active i; mute_time_intervals = own_mute i; path = path i }
+      λ i. record { parent = own_parent i; matchers = own (λ r. r.matchers) [] i; continues = own (λ r. r.continues) false i; receiver = receiver i; group_by = group_by i; group_wait = group_wait i; group_interval = group_interval i; repeat_interval = repeat_interval i; active_time_intervals = own (λ r. r.active_time_intervals) [] i; mute_time_intervals = own (λ r. r.mute_time_intervals) [] i; path = path i }
 
   found_above : (parent : ℕ) → parent < n → slice_get (settled_to config n) parent ≡ Some (settings_of config parent)
   unfolding settled_to
