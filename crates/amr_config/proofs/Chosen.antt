@@ -24,30 +24,28 @@ use Rattle.amr_config.proofs.Ranges.{any_below, any_nowhere, any_none_below, any
 abbrev pub standing : Bool → Bool → Bool → Standing
 standing reached taken closed = record { is_open = reached; is_taken = taken; is_closed = closed }
 
-third_false : (a b c : Bool) → (((a && false) && b) && c) ≡ false
-third_false true b c = refl
-third_false false b c = refl
-
 and_true : (b : Bool) → (b && true) ≡ b
 and_true true = refl
 and_true false = refl
 
 module _ (config : Config) (labels : LabelSet) (first : AreParentsFirst config) where
+  -- whether a route cuts off a later one, if it is an earlier sibling
+  abbrev cuts : ℕ → Bool → Bool
+  cuts m before = (before && matches_route config labels m) && not (route_is (λ route. route.continues) config m)
+
   cut_root : (n : ℕ) → parent_of config n ≡ None → is_cut_off config labels n ≡ false
   cut_root n e =
       any_nowhere _ (length config.routes) (λ m.
-      ap (λ o. ((nat_lt m n && option_map_or (λ parent. is_child config parent m) o false) && matches_route config labels m) && not (route_is (λ route. route.continues) config m)) e
-      ∙ third_false (nat_lt m n) (matches_route config labels m) (not (route_is (λ route. route.continues) config m)))
+      ap (λ o. cuts m (nat_lt m n && option_map_or (λ parent. is_child config parent m) o false)) e ∙ ap (cuts m) (and-false (nat_lt m n)))
 
   pub cut_child : (n parent : ℕ) → n ≤ length config.routes → parent_of config n ≡ Some parent → is_cut_off config labels n ≡ list_any (closes config labels parent) (range_with_len 0 n)
   cut_child n parent le e =
       any_below _ (closes config labels parent) n (length config.routes) le
-      (λ m h.
-      ap (λ o. ((nat_lt m n && option_map_or (λ parent. is_child config parent m) o false) && matches_route config labels m) && not (route_is (λ route. route.continues) config m)) e
-      ∙ ap (λ b. ((b && is_child config parent m) && matches_route config labels m) && not (route_is (λ route. route.continues) config m)) (lt-ltb m n h))
-      (λ m h.
-      ap (λ o. ((nat_lt m n && option_map_or (λ parent. is_child config parent m) o false) && matches_route config labels m) && not (route_is (λ route. route.continues) config m)) e
-      ∙ ap (λ b. ((b && is_child config parent m) && matches_route config labels m) && not (route_is (λ route. route.continues) config m)) (le-ltb m n h))
+      (λ m h. under m ∙ ap (λ b. cuts m (b && is_child config parent m)) (lt-ltb m n h))
+      (λ m h. under m ∙ ap (λ b. cuts m (b && is_child config parent m)) (le-ltb m n h))
+    where
+      under : (m : ℕ) → cuts m (nat_lt m n && option_map_or (λ parent. is_child config parent m) (parent_of config n) false) ≡ cuts m (nat_lt m n && is_child config parent m)
+      under m = ap (λ o. cuts m (nat_lt m n && option_map_or (λ parent. is_child config parent m) o false)) e
 
   pub open_root : (n : ℕ) → parent_of config n ≡ None → is_open config labels n ≡ matches_route config labels n
   unfolding is_open

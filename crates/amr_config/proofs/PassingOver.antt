@@ -28,10 +28,6 @@ pub without_error : {X E : Type 0} (r : Result X E) {P : Type 0} → (is_ok r �
 without_error (Ok x) h = h refl
 without_error (Err e) h = tt
 
-pub weaker : {X E : Type 0} (r : Result X E) {P Q : Type 0} → (P → Q) → OnOk r P → OnOk r Q
-weaker (Ok x) h p = h p
-weaker (Err e) h p = tt
-
 -- one more route has been seen
 pub one_more : (config : Config) (labels : LabelSet) (n now : ℕ) (standings : List Standing) → n < length config.routes → now ≡ n + 1 → standings ≡ standings_at config labels (n + 1) → IsMoreSeen config labels n now standings
 one_more config labels n now standings lt len seen =

@@ -1,5 +1,5 @@
 -- What is read of a part where the whole is read.
-use Rattle.std.proofs.Common.{◌≡◌, ℕ, ◌+◌, List, [], ◌∷◌, ◌++◌, Option, Some, None, Result, Ok, Err, codes, refl, sym, ap}
+use Rattle.std.proofs.Common.{◌≡◌, ℕ, List, [], ◌∷◌, ◌++◌, Option, Some, None, Result, Ok, Err, codes, refl, sym, ap}
 use Rattle.serde_json.specs.Data.{Data}
 use Rattle.amr_config.specs.declared.read.error.Refusal.{Refusal}
 use Rattle.amr_config.specs.declared.stated.route.Route.{Route}

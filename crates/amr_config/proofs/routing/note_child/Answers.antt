@@ -1,8 +1,9 @@
 use Rattle.std.proofs.Common.{◌≡◌, ◌+◌, ◌≤◌, ◌++◌, ◌∷◌, [], false, true, not, set, length, inl, inr, sym, ap, ◌∙◌, arith}
+use Rattle.std.proofs.lemmas.Result.{on_ok_weaker}
 use Rattle.amr_config.specs.declared.routing.Standing.{Standing}
 use Rattle.amr_config.specs.Standings.{is_open, standings_at}
 use Rattle.amr_config.proofs.Chosen.{shut_open, taken_step, standing_found, matches_is, continues_is}
-use Rattle.amr_config.proofs.PassingOver.{one_more, unmatched_shut, weaker}
+use Rattle.amr_config.proofs.PassingOver.{one_more, unmatched_shut}
 use Rattle.amr_config.proofs.routing.note_child.Goals as goal
 use Rattle.amr_config.proofs.routing.note_child.Goals.{then-not-above-via-then-not-above, then-not-above-via-else-not-above+then-above, then-not-above-via-else-not-above+else-above+in_ok-matches_all+then-not-branch}
 
@@ -23,7 +24,7 @@ returns-then-not-above c =
           unmatched_shut config labels parents n c.args.parent child
           (sym (matches_is config labels n w.in_ok-matches_all.field-0 c.route-settings.result.now (rw c.len.ensures c.requires.next) c.route-settings.ensures.value w.in_ok-matches_all.ensures) ∙ w.if-not-branch.true)
     ] in
-    weaker c.pass_over.result (λ seen. seen labels c.requires.so_far (rw (← c.len.ensures) shut)) c.pass_over.ensures
+    on_ok_weaker c.pass_over.result (λ seen. seen labels c.requires.so_far (rw (← c.len.ensures) shut)) c.pass_over.ensures
 
 pub returns : goal.returns
 returns c =
