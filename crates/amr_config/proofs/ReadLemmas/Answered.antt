@@ -10,8 +10,8 @@ use Rattle.amr_config.specs.Read.Readings.{Reading, plain, next, value_after, pa
 use Rattle.amr_config.specs.Read.RouteParts.{is_too_deep}
 use Rattle.amr_config.specs.Read.Walking.{walked_at}
 use Rattle.amr_config.specs.Read.Table.{StatesWhole}
-use Rattle.amr_config.specs.Read.Faults.{Finding, first_fault, patterns_before, findings_of}
-use Rattle.amr_config.proofs.ReadLemmas.Judged.{Judged, Tells}
+use Rattle.amr_config.specs.Read.Faults.{first_fault, patterns_before, findings_of}
+use Rattle.amr_config.proofs.ReadLemmas.Judged.{Judged, Tells, told}
 use Rattle.amr_config.proofs.ReadLemmas.JudgedRoutes.{walked_judged}
 use Rattle.amr_config.proofs.ReadLemmas.DeepRoutes.{deep_route_of}
 use Rattle.amr_config.specs.Stated.Config.{Config}
@@ -20,13 +20,10 @@ use Rattle.amr_config.specs.Read.Reading.{unless_refused, reading_of}
 use Rattle.amr_config.specs.Read.ReadLaws.{WhatIsReadIsStated, AnswersBy, AnswersGoByTheFirstFault}
 use Rattle.amr_config.proofs.ReadLemmas.WholeConfigs.{was_judged}
 
-read_states : (d : Data) (stated : Stated) (r : Result Stated Refusal) (findings : List Finding) → r ≡ Ok stated → Tells r findings (StatesWhole d) → StatesWhole d stated
-read_states d stated r findings is t = (subst (λ (r : Result Stated Refusal). Tells r findings (StatesWhole d)) is t).1
-
 pub what_is_read_is_stated : WhatIsReadIsStated
 what_is_read_is_stated d config e =
     let was = was_judged d config e in
-    let states = read_states d was.stated (walked_at d).value (findings_of d) was.walked (walked_judged d was.shallow).tells in
+    let states = told (walked_at d).value (findings_of d) (StatesWhole d) was.stated was.walked (walked_judged d was.shallow).tells in
     rw was.is states
 
 -- ---- answers

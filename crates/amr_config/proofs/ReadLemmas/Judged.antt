@@ -60,6 +60,10 @@ abbrev pub Tells : {A : Type 0} → Result A Refusal → List Finding → (A →
 Tells (Ok x) fs P = (first_fault fs ≡ None) × P x
 Tells (Err refusal) fs P = (path : List ℕ) × (refusal ≡ BadConfig path) × (first_fault fs ≡ Some path)
 
+-- what is read is what is told of it
+pub told : {A : Type 0} (r : Result A Refusal) (fs : List Finding) (P : A → Type 0) (x : A) → r ≡ Ok x → Tells r fs P → P x
+told r fs P x is t = (subst (λ (r : Result _ Refusal). Tells r fs P) is t).1
+
 pub record Judged {A : Type 0} (reading : Reading A) (fs : List Finding) (P : A → Type 0) : Type 0 where
   pub tells : Tells reading.value fs P
   pub met : reading.patterns ≡ patterns_before fs

@@ -1,5 +1,5 @@
 -- What is read of the routes, and of a whole configuration, states what is there, and a refusal is that of the first fault.
-use Rattle.std.proofs.Common.{◌≡◌, ℕ, zero, suc, ◌+◌, false, true≢false, List, [], ◌∷◌, ◌++◌, length, Option, Some, None, refl, sym, ap, subst, ◌∙◌, append_assoc, length-append, codes}
+use Rattle.std.proofs.Common.{◌≡◌, ℕ, zero, suc, ◌+◌, false, true≢false, List, [], ◌∷◌, ◌++◌, length, Option, Some, None, Ok, refl, sym, ap, subst, ◌∙◌, append_assoc, length-append, codes}
 use Rattle.std.specs.Prelude.{unwrap_or}
 use Rattle.std.specs.Option.{option_map_or}
 use Rattle.std.proofs.lemmas.Bool.{or_parts}
@@ -18,7 +18,7 @@ use Rattle.amr_config.specs.Read.ReadRoutes.{route_at, own_into, add_route, chil
 use Rattle.amr_config.specs.Read.Walking.{walked_at}
 use Rattle.amr_config.specs.Read.Table.{IsText, IsFlag, IsDuration, IsListOf, StatesIf, States, HasAt, IsGrouping, IsDefinedName, IsRoute, IsArray, IsTree, Tree, AreTrees, NoMore, OneMore, StatesWhole}
 use Rattle.amr_config.specs.Read.Faults.{Finding, Fault, text_found, flag_found, object_found, spelled_found, each_found, items_found, list_found, if_there, at, if_there_or, needed_at, match_found, defined_name_found, route_found, global_found, rule_found, receiver_found, interval_list_found, names_under, findings_of}
-use Rattle.amr_config.proofs.ReadLemmas.Judged.{Judged, by_findings, judged_ok, judged_fault, judged_then, judged_as, judged_map, judged_stated, judged_text, judged_flag, judged_object}
+use Rattle.amr_config.proofs.ReadLemmas.Judged.{Judged, told, by_findings, judged_ok, judged_fault, judged_then, judged_as, judged_map, judged_stated, judged_text, judged_flag, judged_object}
 use Rattle.amr_config.proofs.ReadLemmas.JudgedParts.{judged_texts, judged_span, judged_names, judged_timeout, judged_defined, names_under_read}
 use Rattle.amr_config.proofs.ReadLemmas.JudgedReceivers.{judged_receivers}
 use Rattle.amr_config.proofs.ReadLemmas.JudgedMatchers.{walk_matchers, walk_rules}
@@ -32,7 +32,7 @@ grouped (Some v) None h = absurd h
 grouped (Some v) (Some names) h = (names, h, refl)
 
 -- a route added to those before it
-abbrev AddsRoute : Data → Option ℕ → Data → List Route → List Route → Type 0
+abbrev pub AddsRoute : Data → Option ℕ → Data → List Route → List Route → Type 0
 AddsRoute whole parent d before after = (route : Route) × (after ≡ before ++ route ∷ []) × (route.parent ≡ parent) × IsRoute whole d route
 
 own_found : Data → List ℕ → Data → List Finding
@@ -88,6 +88,9 @@ walk_own : (whole : Data) (path : List ℕ) (parent : Option ℕ) (d : Data) (ro
 unfolding own_into
 walk_own whole path parent d routes =
     judged_map _ _ _ _ _ (walk_one whole path parent d) (λ route (of, is). (route, refl, of, is))
+
+pub own_adds : (whole : Data) (path : List ℕ) (parent : Option ℕ) (d : Data) (routes own : List Route) → (own_into whole path parent d routes).value ≡ Ok own → AddsRoute whole parent d routes own
+own_adds whole path parent d routes own e = told _ _ _ own e (walk_own whole path parent d routes).tells
 
 -- ---- routes below routes
 

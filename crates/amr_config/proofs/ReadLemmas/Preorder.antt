@@ -1,17 +1,15 @@
 -- What is read of a part where the whole is read.
-use Rattle.std.proofs.Common.{◌≡◌, ℕ, List, [], ◌∷◌, ◌++◌, Option, Some, None, Result, Ok, Err, codes, refl, sym, ap}
+use Rattle.std.proofs.Common.{◌≡◌, List, [], Option, Some, None, Result, Ok, Err, codes, refl}
 use Rattle.serde_json.specs.Data.{Data}
 use Rattle.amr_config.specs.declared.read.error.Refusal.{Refusal}
 use Rattle.amr_config.specs.declared.stated.route.Route.{Route}
 use Rattle.amr_config.specs.declared.stated.stated.Stated.{Stated}
-use Rattle.amr_config.specs.Read.Members.{optional_member, members_at, text_at, flag_at, span_at, texts_at}
-use Rattle.amr_config.specs.Read.ReadIntervals.{intervals_at, names_at}
+use Rattle.amr_config.specs.Read.ReadIntervals.{intervals_at}
 use Rattle.amr_config.specs.Read.Readings.{Reading, next, value_after}
 use Rattle.amr_config.specs.Read.Timeout.{timeout_at}
-use Rattle.amr_config.specs.Read.ReadMatchers.{matchers_at}
 use Rattle.amr_config.specs.Read.ReadReceivers.{receivers_at}
 use Rattle.amr_config.specs.Read.ReadRules.{rules_at}
-use Rattle.amr_config.specs.Read.ReadRoutes.{route_at, own_into, add_route, tree_from, routes_at}
+use Rattle.amr_config.specs.Read.ReadRoutes.{add_route, tree_from, routes_at}
 use Rattle.amr_config.specs.Read.Walking.{walked_at}
 
 pub ok_same : {A : Type 0} (x y : A) → ◌≡◌ {A = Result A Refusal} (Ok x) (Ok y) → x ≡ y
@@ -24,27 +22,6 @@ after_ok (Err r) f b e = cc
 pub bind_ok : {A B : Type 0} (part : Reading A) (f : A → Reading B) (b : B) → (next part f).value ≡ Ok b → (a : A) × (part.value ≡ Ok a) × ((f a).value ≡ Ok b)
 unfolding next
 bind_ok part f b e = after_ok part.value f b e
-
-route_parent : (whole : Data) (path : List ℕ) (parent : Option ℕ) (d : Data) (route : Route) → (route_at whole path parent d).value ≡ Ok route → route.parent ≡ parent
-unfolding route_at
-route_parent whole path parent d route e =
-    let object = bind_ok (members_at path d) _ route e in
-    let active = bind_ok (optional_member (names_at whole) path (codes "active_time_intervals") d) _ route object.2 in
-    let continues = bind_ok (optional_member flag_at path (codes "continue") d) _ route active.2 in
-    let group_by = bind_ok (optional_member texts_at path (codes "group_by") d) _ route continues.2 in
-    let group_interval = bind_ok (optional_member span_at path (codes "group_interval") d) _ route group_by.2 in
-    let group_wait = bind_ok (optional_member span_at path (codes "group_wait") d) _ route group_interval.2 in
-    let matchers = bind_ok (matchers_at path (codes "match") (codes "match_re") (codes "matchers") d) _ route group_wait.2 in
-    let mute = bind_ok (optional_member (names_at whole) path (codes "mute_time_intervals") d) _ route matchers.2 in
-    let receiver = bind_ok (optional_member text_at path (codes "receiver") d) _ route mute.2 in
-    let repeat_interval = bind_ok (optional_member span_at path (codes "repeat_interval") d) _ route receiver.2 in
-    sym (ap (λ (r : Route). r.parent) (ok_same _ route repeat_interval.2))
-
-pub own_adds : (whole : Data) (path : List ℕ) (parent : Option ℕ) (d : Data) (routes own : List Route) → (own_into whole path parent d routes).value ≡ Ok own → (route : Route) × (route.parent ≡ parent) × (own ≡ routes ++ route ∷ [])
-unfolding own_into
-own_adds whole path parent d routes own e =
-    let read = bind_ok (route_at whole path parent d) _ own e in
-    (read.0, route_parent whole path parent d read.0 read.1, sym (ok_same _ own read.2))
 
 pub found_ok : (whole : Data) (found : Option Data) (routes : List Route) → (tree_from whole found).value ≡ Ok routes → (d : Data) × ((add_route whole 32 (codes "route") None d []).value ≡ Ok routes)
 found_ok whole None routes e = cc

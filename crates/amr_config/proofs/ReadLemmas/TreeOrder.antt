@@ -15,7 +15,8 @@ use Rattle.amr_config.specs.Read.RouteParts.{children_at}
 use Rattle.amr_config.specs.Read.ReadRoutes.{own_into, add_route, child_into, tree_from, routes_at}
 use Rattle.amr_config.specs.Read.Walking.{walked_at}
 use Rattle.amr_config.specs.Settled.{AreParentsFirst, stated_config}
-use Rattle.amr_config.proofs.ReadLemmas.Preorder.{ok_same, bind_ok, own_adds, found_ok, was_walked}
+use Rattle.amr_config.proofs.ReadLemmas.Preorder.{ok_same, bind_ok, found_ok, was_walked}
+use Rattle.amr_config.proofs.ReadLemmas.JudgedRoutes.{own_adds}
 
 abbrev pub parent_at : List Route → ℕ → Option ℕ
 parent_at routes n = option_map_or (λ (route : Route). route.parent) (slice_get routes n) None
@@ -138,13 +139,13 @@ route_adds whole (suc left) path parent d routes after e may =
     let a = bind_ok (own_into whole path parent d routes) _ after e in
     let b = bind_ok (children_at path d) _ after a.2 in
     let own = own_adds whole path parent d routes a.0 a.1 in
-    let opened = own_opens routes own.0 a.0 own.2 (rw own.1 may) in
+    let opened = own_opens routes own.0 a.0 own.1 (rw own.2 may) in
     let rest = items_add whole left path (length routes) (route_adds whole left) 0 b.0 a.0 after b.2 opened in
     let within : length routes < length a.0 = opened.within in
     let first : parent_at a.0 (length routes) ≡ parent =
-    ap (λ rs. parent_at rs (length routes)) own.2 ∙ ap (λ o. option_map_or (λ (r : Route). r.parent) o None) (get_last routes own.0) ∙ own.1 in
+    ap (λ rs. parent_at rs (length routes)) own.1 ∙ ap (λ o. option_map_or (λ (r : Route). r.parent) o None) (get_last routes own.0) ∙ own.2 in
     record {
-      grown = grown_twice routes a.0 after (own.0 ∷ [], own.2) rest.grown;
+      grown = grown_twice routes a.0 after (own.0 ∷ [], own.1) rest.grown;
       longer = omega (arith, within, rest.longer);
       linked = rest.still.linked;
       has = kept_parent a.0 after (length routes) within rest.grown ∙ first;
