@@ -11,11 +11,11 @@ pub mod Levels
 pub mod NameSets
 pub mod OnlyDots
 pub mod PatternsMet
-pub mod Preorder
 pub mod ReadKeys
 pub mod Readings
 pub mod Refused
 pub mod DeepRoutes
 pub mod TreeOrder
 pub mod Turns
+pub mod WalkedParts
 pub mod WholeConfigs

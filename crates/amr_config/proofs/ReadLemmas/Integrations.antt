@@ -24,7 +24,7 @@ use Rattle.amr_config.specs.declared.stated.receiver.Receiver.{Receiver}
 use Rattle.amr_config.specs.Read.Members.{unless_null, optional, optional_member, required_member, or_faulty, flag_at, items_at, members_at}
 use Rattle.amr_config.specs.Read.Paths.{under, item_path}
 use Rattle.amr_config.specs.Read.ReadReceivers.{default_of, entry_into, entries_at, is_on_side, kind_key, stated_entries, with_entries, entries_under, kind_into, kinds_at, name_at, receiver_at, receiver_into, receivers_list, receivers_at}
-use Rattle.amr_config.proofs.ReadLemmas.Preorder.{ok_same, bind_ok, was_walked}
+use Rattle.amr_config.proofs.ReadLemmas.WalkedParts.{ok_same, bind_ok, was_walked}
 use Rattle.amr_config.specs.declared.stated.stated.Stated.{Stated}
 use Rattle.amr_config.specs.Read.Readings.{give, items_in_turn, members_in_turn}
 use Rattle.amr_config.specs.Read.Walking.{walked_at}

@@ -160,8 +160,8 @@ walk_matchers path equal patterns texts d =
 walk_rule : (path : List ℕ) (d : Data) → Judged (rule_at path d) (rule_found path d) (IsRule d)
 unfolding rule_at
 walk_rule path d =
-    judged_then _ _ _ _ _ _ ((judged_object path d)) (λ whole is_object.
-    judged_then _ _ _ _ _ _ ((judged_stated texts_at (list_found text_found) (IsListOf IsText) path (codes "equal") d (judged_texts _))) (λ equal has_equal.
+    judged_then _ _ _ _ _ _ (judged_object path d) (λ whole is_object.
+    judged_then _ _ _ _ _ _ (judged_stated texts_at (list_found text_found) (IsListOf IsText) path (codes "equal") d (judged_texts _)) (λ equal has_equal.
     judged_then _ _ _ _ _ _ (walk_matchers path (codes "source_match") (codes "source_match_re") (codes "source_matchers") d) (λ source has_source.
     judged_map _ _ _ _ _ (walk_matchers path (codes "target_match") (codes "target_match_re") (codes "target_matchers") d) (λ target has_target.
     record { equal = (equal, has_equal, refl); source = has_source; target = has_target }))))

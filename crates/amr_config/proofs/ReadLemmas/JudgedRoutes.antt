@@ -62,13 +62,13 @@ unfolding route_at own_found
 walk_one whole path parent d =
     judged_then _ _ _ _ _ _ (judged_object path d) (λ members is_object.
     judged_then _ _ _ _ _ _ (walk_stated_names whole path (codes "active_time_intervals") d) (λ active has_active.
-    judged_then _ _ _ _ _ _ ((judged_stated flag_at flag_found IsFlag path (codes "continue") d (judged_flag _))) (λ continues has_continues.
-    judged_then _ _ _ _ _ _ ((judged_stated texts_at (list_found text_found) (IsListOf IsText) path (codes "group_by") d (judged_texts _))) (λ group_by has_group_by.
+    judged_then _ _ _ _ _ _ (judged_stated flag_at flag_found IsFlag path (codes "continue") d (judged_flag _)) (λ continues has_continues.
+    judged_then _ _ _ _ _ _ (judged_stated texts_at (list_found text_found) (IsListOf IsText) path (codes "group_by") d (judged_texts _)) (λ group_by has_group_by.
     judged_then _ _ _ _ _ _ (walk_stated_span path (codes "group_interval") d) (λ group_interval has_interval.
     judged_then _ _ _ _ _ _ (walk_stated_span path (codes "group_wait") d) (λ group_wait has_wait.
     judged_then _ _ _ _ _ _ (walk_matchers path (codes "match") (codes "match_re") (codes "matchers") d) (λ matchers has_matchers.
     judged_then _ _ _ _ _ _ (walk_stated_names whole path (codes "mute_time_intervals") d) (λ mute has_mute.
-    judged_then _ _ _ _ _ _ ((judged_stated text_at text_found IsText path (codes "receiver") d (judged_text _))) (λ receiver has_receiver.
+    judged_then _ _ _ _ _ _ (judged_stated text_at text_found IsText path (codes "receiver") d (judged_text _)) (λ receiver has_receiver.
     judged_map _ _ _ _ _ (walk_stated_span path (codes "repeat_interval") d) (λ repeat_interval has_repeat. (
       refl,
       record {
@@ -192,11 +192,11 @@ unfolding walked_at whole_found
 walk_whole d shallow =
     judged_then _ _ _ _ _ _ (judged_timeout d) (λ timeout has_timeout.
     judged_then _ _ _ _ _ _ (walk_rules d) (λ rules has_rules.
-    judged_then _ _ _ _ _ _ ((judged_defined (codes "mute_time_intervals") d [])) (λ mute (of_mute, same_mute, has_mute).
+    judged_then _ _ _ _ _ _ (judged_defined (codes "mute_time_intervals") d []) (λ mute (of_mute, same_mute, has_mute).
     judged_then _ _ _ _ _ _ (judged_receivers d) (λ receivers has_receivers.
     judged_then _ _ _ _ _ _ (walk_routes d shallow) (λ routes has_routes.
     by_findings _ _ _ _ (ap (λ names. if_there (λ v. interval_list_found names (codes "time_intervals") (as_array v)) (member_of (codes "time_intervals") d)) (sym (names_under_read (codes "mute_time_intervals") d mute (rw same_mute has_mute))))
-    (judged_map _ _ _ _ _ ((judged_defined (codes "time_intervals") d mute)) (λ named (of_named, same_named, has_named).
+    (judged_map _ _ _ _ _ (judged_defined (codes "time_intervals") d mute) (λ named (of_named, same_named, has_named).
     record {
       resolve_timeout = has_timeout;
       rules = has_rules;

@@ -15,7 +15,7 @@ use Rattle.amr_config.specs.Read.RouteParts.{children_at}
 use Rattle.amr_config.specs.Read.ReadRoutes.{own_into, add_route, child_into, tree_from, routes_at}
 use Rattle.amr_config.specs.Read.Walking.{walked_at}
 use Rattle.amr_config.specs.Settled.{AreParentsFirst, stated_config}
-use Rattle.amr_config.proofs.ReadLemmas.Preorder.{ok_same, bind_ok, found_ok, was_walked}
+use Rattle.amr_config.proofs.ReadLemmas.WalkedParts.{ok_same, bind_ok, was_walked}
 use Rattle.amr_config.proofs.ReadLemmas.JudgedRoutes.{own_adds}
 
 abbrev pub parent_at : List Route → ℕ → Option ℕ
@@ -156,9 +156,8 @@ none_yet : MayFollow [] None
 none_yet = record { linked = λ n lt. absurd (omega (arith, lt)); follows = λ last e. absurd (omega (arith, e)) }
 
 found_adds : (whole : Data) (found : Option Data) (routes : List Route) → (tree_from whole found).value ≡ Ok routes → Adds [] routes None
-found_adds whole found routes e =
-    let (d, is) = found_ok whole found routes e in
-    route_adds whole 32 (codes "route") None d [] routes is none_yet
+found_adds whole None routes e = cc
+found_adds whole (Some d) routes e = route_adds whole 32 (codes "route") None d [] routes e none_yet
 
 routes_add : (d : Data) (routes : List Route) → (routes_at d).value ≡ Ok routes → Adds [] routes None
 unfolding routes_at

@@ -1,31 +1,26 @@
 -- What is read of a part where the whole is read.
-use Rattle.std.proofs.Common.{◌≡◌, List, [], Option, Some, None, Result, Ok, Err, codes, refl}
+use Rattle.std.proofs.Common.{◌≡◌, [], Result, Ok, Err, codes, refl}
 use Rattle.serde_json.specs.Data.{Data}
 use Rattle.amr_config.specs.declared.read.error.Refusal.{Refusal}
-use Rattle.amr_config.specs.declared.stated.route.Route.{Route}
 use Rattle.amr_config.specs.declared.stated.stated.Stated.{Stated}
 use Rattle.amr_config.specs.Read.ReadIntervals.{intervals_at}
 use Rattle.amr_config.specs.Read.Readings.{Reading, next, value_after}
 use Rattle.amr_config.specs.Read.Timeout.{timeout_at}
 use Rattle.amr_config.specs.Read.ReadReceivers.{receivers_at}
 use Rattle.amr_config.specs.Read.ReadRules.{rules_at}
-use Rattle.amr_config.specs.Read.ReadRoutes.{add_route, tree_from, routes_at}
+use Rattle.amr_config.specs.Read.ReadRoutes.{routes_at}
 use Rattle.amr_config.specs.Read.Walking.{walked_at}
 
 pub ok_same : {A : Type 0} (x y : A) → ◌≡◌ {A = Result A Refusal} (Ok x) (Ok y) → x ≡ y
 ok_same x y e = cc
 
-pub after_ok : {A B : Type 0} (r : Result A Refusal) (f : A → Reading B) (b : B) → value_after r f ≡ Ok b → (a : A) × (r ≡ Ok a) × ((f a).value ≡ Ok b)
+after_ok : {A B : Type 0} (r : Result A Refusal) (f : A → Reading B) (b : B) → value_after r f ≡ Ok b → (a : A) × (r ≡ Ok a) × ((f a).value ≡ Ok b)
 after_ok (Ok a) f b e = (a, refl, e)
 after_ok (Err r) f b e = cc
 
 pub bind_ok : {A B : Type 0} (part : Reading A) (f : A → Reading B) (b : B) → (next part f).value ≡ Ok b → (a : A) × (part.value ≡ Ok a) × ((f a).value ≡ Ok b)
 unfolding next
 bind_ok part f b e = after_ok part.value f b e
-
-pub found_ok : (whole : Data) (found : Option Data) (routes : List Route) → (tree_from whole found).value ≡ Ok routes → (d : Data) × ((add_route whole 32 (codes "route") None d []).value ≡ Ok routes)
-found_ok whole None routes e = cc
-found_ok whole (Some d) routes e = (d, e)
 
 -- what was read of a whole configuration
 pub record WasWalked (d : Data) (stated : Stated) : Type 0 where
