@@ -9,7 +9,7 @@ use Rattle.amr_labels.specs.Matcher.Matchers.{all_hold}
 use Rattle.amr_time.specs.Time.{Moment}
 use Rattle.amr_rules.specs.declared.silence.Silence.{Silence}
 use Rattle.amr_rules.specs.Silences.{Silences, is_expired_at}
-use Rattle.amr_rules.specs.SilencePeriods.{may_silence, period_of, periods_among, silence_periods, row_of, rows_among, silence_rows, unexpired_silences}
+use Rattle.amr_rules.specs.SilencePeriods.{may_silence, period_of, periods_among, silence_periods, unexpired_silences}
 
 apart : {A : Type 0} → true ≡ false → A
 apart e = absurd (cc e)
@@ -39,9 +39,3 @@ pub periods_later : (from earlier : Moment) (labels : LabelSet) (silences : Sile
 periods_later from earlier labels silences le =
     ap (map period_of) (kept_twice (λ (stored : ℕ × Silence). may_silence from labels stored.1) (λ (stored : ℕ × Silence). not (is_expired_at earlier stored.1))
     (λ stored may. not_before stored.1.ends_at earlier from le (of_both (not (is_expired_at from stored.1)) (all_hold stored.1.matchers labels) may)) (entries silences))
-
-pub rows_later : (from earlier : Moment) (label_sets : List LabelSet) (silences : Silences) → earlier ≤ from
-    → rows_among from label_sets (unexpired_silences earlier silences) ≡ silence_rows from label_sets silences
-rows_later from earlier label_sets silences le =
-    ap (map (row_of label_sets)) (kept_twice (λ (stored : ℕ × Silence). not (is_expired_at from stored.1)) (λ (stored : ℕ × Silence). not (is_expired_at earlier stored.1))
-    (λ stored kept. not_before stored.1.ends_at earlier from le kept) (entries silences))

@@ -1,15 +1,13 @@
 -- From when to when the silences that match labels mute them, for a question that is asked at many
 -- moments.
-use Rattle.std.specs.Prelude.{ℕ, Bool, false, get_or, not, ◌&&◌, List, Option, map, option_map, nat_le, nat_lt}
+use Rattle.std.specs.Prelude.{ℕ, Bool, not, ◌&&◌, List, [], ◌∷◌, ◌++◌, if◌then◌else◌, Option, map, option_map, nat_le, nat_lt}
 use Rattle.std.specs.List.{find, filter}
 use Rattle.amr_labels.specs.Map.{entries}
 use Rattle.amr_labels.specs.Labels.{LabelSet}
 use Rattle.amr_labels.specs.Matcher.Matchers.{all_hold}
-use Rattle.amr_labels.specs.Matcher.Candidates.{matches_each}
 use Rattle.amr_time.specs.Time.{Moment}
 use Rattle.amr_rules.specs.declared.silence.Silence.{Silence}
 use Rattle.amr_rules.specs.declared.silence_period.SilencePeriod.{SilencePeriod}
-use Rattle.amr_rules.specs.declared.silence_row.SilenceRow.{SilenceRow}
 use Rattle.amr_rules.specs.Silences.{Silences, is_expired_at}
 
 -- the silence isn't expired at this moment, and all its matchers match the labels
@@ -28,10 +26,6 @@ periods_among from labels listed = map period_of (filter (λ stored. may_silence
 abbrev pub silence_periods : Moment → LabelSet → Silences → List SilencePeriod
 silence_periods from labels silences = periods_among from labels (entries silences)
 
--- a silence's period, and for each label set of a list whether the silence matches it
-abbrev pub row_of : List LabelSet → ℕ × Silence → SilenceRow
-row_of label_sets stored = record { period = period_of stored; matches = matches_each stored.1.matchers label_sets }
-
 -- those of these silences that aren't expired at this moment
 abbrev pub unexpired_of : Moment → List (ℕ × Silence) → List (ℕ × Silence)
 unexpired_of from listed = filter (λ stored. not (is_expired_at from stored.1)) listed
@@ -40,21 +34,11 @@ unexpired_of from listed = filter (λ stored. not (is_expired_at from stored.1))
 abbrev pub unexpired_silences : Moment → Silences → List (ℕ × Silence)
 unexpired_silences from silences = unexpired_of from (entries silences)
 
--- a row for each of these silences that isn't expired at this moment
-abbrev pub rows_among : Moment → List LabelSet → List (ℕ × Silence) → List SilenceRow
-rows_among from label_sets listed = map (row_of label_sets) (unexpired_of from listed)
-
--- a row for each silence that isn't expired at this moment, in the order of ids
-abbrev pub silence_rows : Moment → List LabelSet → Silences → List SilenceRow
-silence_rows from label_sets silences = rows_among from label_sets (entries silences)
-
--- whether the silence matches the label set at this index of the list
-abbrev pub matches_at : ℕ → SilenceRow → Bool
-matches_at index row = get_or row.matches index false
-
--- the periods of the silences that match the label set at this index of the list
-abbrev pub periods_at : ℕ → List SilenceRow → List SilencePeriod
-periods_at index rows = map (λ row. row.period) (filter (matches_at index) rows)
+-- the period of a silence follows those that each label set has which it matches
+abbrev pub added_where : SilencePeriod → List Bool → List (List SilencePeriod) → List (List SilencePeriod)
+added_where period (matches ∷ more) (periods ∷ each) = (if matches then periods ++ period ∷ [] else periods) ∷ added_where period more each
+added_where period (matches ∷ more) [] = []
+added_where period [] each = each
 
 -- a period goes from its start to just before its end
 abbrev pub covers : Moment → SilencePeriod → Bool

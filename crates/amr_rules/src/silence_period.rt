@@ -25,9 +25,20 @@ pub struct SilencePeriod {
     pub ends_at: Moment,
 }
 
-ghost use Rattle.amr_rules.specs.SilencePeriods.{may_silence, covers, periods_among, silence_periods, silenced_in, unexpired_silences};
+ghost use Rattle.amr_rules.specs.SilencePeriods.{may_silence, period_of, covers, periods_among, silence_periods, silenced_in, unexpired_silences};
 
 impl SilencePeriod {
+    /// Returns when the silence with this id is active.
+    pub fn of(id: SilenceId, silence: &Silence) -> SilencePeriod
+        ensures { result ≡ period_of (id, silence.now) }
+    {
+        SilencePeriod {
+            id,
+            starts_at: silence.starts_at,
+            ends_at: silence.ends_at,
+        }
+    }
+
     /// Returns whether the silence is active at a moment.
     fn covers(&self, moment: Moment) -> bool
         ensures { result ≡ covers moment self.now }
@@ -74,11 +85,7 @@ pub fn silence_periods(
     let mut periods = Listing::new(alloc);
     for (id, silence) in listed {
         if may_silence(answers, from, silence, labels)? {
-            periods.push(SilencePeriod {
-                id: *id,
-                starts_at: silence.starts_at,
-                ends_at: silence.ends_at,
-            })?;
+            periods.push(SilencePeriod::of(*id, silence))?;
         }
     }
     Ok(periods)

@@ -181,11 +181,7 @@ impl CachedPeriods {
         if !silence.matchers.matches_all(answers, &self.labels)? {
             return self.leave_out(alloc, id);
         }
-        let period = SilencePeriod {
-            id: *id,
-            starts_at: silence.starts_at,
-            ends_at: silence.ends_at,
-        };
+        let period = SilencePeriod::of(*id, silence);
         self.periods = with_period(alloc, self.periods.as_slice(), period)?;
         Ok(())
     }

@@ -1,10 +1,10 @@
 //! The silences by id, with what is cached of the label sets that flushes asked about: the periods
 //! of the silences that match them. `store.rt` changes the table and asks it which silence mutes.
-ghost use Rattle.std.specs.Prelude.{◌≡◌, ◌≤◌, [], Some, is_some, IfOk, IfSome};
+ghost use Rattle.std.specs.Prelude.{◌≡◌, ◌≤◌, [], map, Some, is_some, IfOk, IfSome};
 ghost use Rattle.std.specs.Ordering.{nat_cmp};
 ghost use Rattle.amr_labels.specs.Map as map;
 ghost use Rattle.amr_rules.specs.Muting.{is_silenced, silencer_of};
-ghost use Rattle.amr_rules.specs.SilencePeriods.{silence_periods, silence_rows, silenced_in, unexpired_silences};
+ghost use Rattle.amr_rules.specs.SilencePeriods.{silence_periods, silenced_in, unexpired_silences};
 ghost use Rattle.amr_rules.specs.Silences.{Silences};
 ghost use Rattle.amr_tables.specs.Numbered.{map_of, number_of, is_entered, Enters, KeepsPlaces, SamePlaces, SameEntered, NoneEntered};
 
@@ -14,8 +14,8 @@ use amr_events::posts::SilenceId;
 use amr_labels::matcher::{MatchCache, value_bits};
 use amr_labels::{Labels, Listing, Shared};
 use amr_rules::{
-    Alert, Silence, SilencePeriod, SilenceRow, periods_at, silence_periods, silence_rows,
-    silenced_by, silenced_in, unexpired,
+    Alert, Silence, SilencePeriod, periods_of_each, silence_periods, silenced_by, silenced_in,
+    unexpired,
 };
 use amr_tables::{Keyed, make_place};
 use amr_time::Moment;
@@ -267,9 +267,9 @@ impl SilenceTable {
         ensures { self.new ≡ self.old }
     {
         let kept = self.unexpired_at(at)?;
-        let rows = silence_rows(self.alloc, kept.listed.as_slice(), at, label_sets);
+        let each = periods_of_each(self.alloc, kept.listed.as_slice(), at, label_sets);
         self.unexpired = Some(kept);
-        self.cache_rows(at, first, label_sets, rows?.as_slice())
+        self.insert_each(at, first, label_sets, each?)
     }
 
     /// Takes the list of the silences that aren't expired at a moment or weren't before. It makes a
@@ -289,20 +289,21 @@ impl SilenceTable {
         }
     }
 
-    /// Caches the silences that rows list for each of these label sets, with numbers from `first` on.
-    fn cache_rows(
+    /// Caches for each of these label sets, with numbers from `first` on, when the silences that match
+    /// it are active.
+    fn insert_each(
         &mut self,
         at: Moment,
         first: usize,
         label_sets: &[Labels],
-        rows: &[SilenceRow],
+        each: Vec<Listing<SilencePeriod>>,
     ) -> Result<(), AllocError>
-        requires { rows.now ≡ silence_rows at label_sets.now (map_of nat_cmp self.old) }
+        requires { each.items ≡ map (λ labels. silence_periods at labels (map_of nat_cmp self.old))
+            label_sets.now }
         ensures { self.new ≡ self.old }
     {
-        for (index, labels) in label_sets.iter().enumerate() {
-            let periods = periods_at(self.alloc, rows, index)?;
-            self.insert(at, first.saturating_add(index), labels, periods)?;
+        for (index, periods) in each.into_iter().enumerate() {
+            self.insert(at, first.saturating_add(index), &label_sets[index], periods)?;
         }
         Ok(())
     }
