@@ -1,7 +1,6 @@
-use Rattle.std.proofs.Common.{◌≡◌, ◌||◌, ℕ, Some, ap, ◌∙◌}
-use Rattle.std.specs.Ordering.{nat_cmp, eq_by_cmp}
-use Rattle.amr_labels.specs.Map as map
-use Rattle.amr_tables.specs.Numbered.{Numbered, map_of, number_of, has_place, is_entered}
+use Rattle.std.proofs.Common.{◌≡◌, ℕ, Some, sym, ap, subst, ◌∙◌}
+use Rattle.std.specs.Ordering.{nat_cmp}
+use Rattle.amr_tables.specs.Numbered.{Numbered, map_of, number_of, IsValueOf, IsMarkOf, IsSetAt, SamePlaces, EntersAt}
 use Rattle.amr_rules.specs.declared.silence.Silence.{Silence}
 use Rattle.amr_rules.specs.Silences.{Silences}
 use Rattle.amr_engine.specs.Indexes.CachedSilences.{change_of}
@@ -9,7 +8,7 @@ use Rattle.amr_engine.proofs.IndexesLemmas.CachedSilences.{noted_right}
 use Rattle.amr_engine.proofs.indexes.silence_table.SilenceTable.swap_at.Goals as goal
 
 pub swap_at-requires : goal.swap_at-requires
-swap_at-requires c = (c.args.id.now, ap (λ (v : Numbered ℕ Silence). number_of nat_cmp v c.args.id.now) c.self.view_is ∙ c.requires)
+swap_at-requires c = (c.args.id.now, subst (λ (v : Numbered ℕ Silence). number_of nat_cmp v c.args.id.now ≡ Some c.args.number) (sym c.self.view_is) c.requires)
 
 pub invariant_of-self : goal.invariant_of-self
 invariant_of-self c =
@@ -25,28 +24,16 @@ invariant_of-self c =
     )
 
 pub returns-clause-former : goal.returns-clause-former
-returns-clause-former c =
-    let id = c.args.id.now in
-    let at : number_of nat_cmp c.self.inside.silences id ≡ Some c.args.number = ap (λ (v : Numbered ℕ Silence). number_of nat_cmp v id) c.self.view_is ∙ c.requires in
-    c.swap_at.ensures.former id at ∙ ap (λ (v : Numbered ℕ Silence). map.get (map_of nat_cmp v) id) c.self.view_is
+returns-clause-former c = subst (λ (v : Numbered ℕ Silence). IsValueOf nat_cmp v c.args.number c.swap_at.new.value) c.self.view_is c.swap_at.ensures.former c.args.id.now c.requires
 
 pub returns-clause-was_entered : goal.returns-clause-was_entered
-returns-clause-was_entered c =
-    let id = c.args.id.now in
-    let at : number_of nat_cmp c.self.inside.silences id ≡ Some c.args.number = ap (λ (v : Numbered ℕ Silence). number_of nat_cmp v id) c.self.view_is ∙ c.requires in
-    c.swap_at.ensures.was_entered id at ∙ ap (λ (v : Numbered ℕ Silence). is_entered nat_cmp v id) c.self.view_is
+returns-clause-was_entered c = subst (λ (v : Numbered ℕ Silence). IsMarkOf nat_cmp v c.args.number c.swap_at.result) c.self.view_is c.swap_at.ensures.was_entered c.args.id.now c.requires
 
 pub returns-clause-shown : goal.returns-clause-shown
-returns-clause-shown c =
-    let id = c.args.id.now in
-    let at : number_of nat_cmp c.self.inside.silences id ≡ Some c.args.number = ap (λ (v : Numbered ℕ Silence). number_of nat_cmp v id) c.self.view_is ∙ c.requires in
-    c.swap_at.ensures.shown id at ∙ ap (λ (v : Numbered ℕ Silence). map.set (map_of nat_cmp v) id c.args.silence.now) c.self.view_is
+returns-clause-shown c = subst (λ (v : Numbered ℕ Silence). IsSetAt nat_cmp v c.args.number c.args.silence.now c.swap_at.new.self) c.self.view_is c.swap_at.ensures.shown c.args.id.now c.requires
 
 pub returns-clause-entered : goal.returns-clause-entered
-returns-clause-entered c =
-    let id = c.args.id.now in
-    let at : number_of nat_cmp c.self.inside.silences id ≡ Some c.args.number = ap (λ (v : Numbered ℕ Silence). number_of nat_cmp v id) c.self.view_is ∙ c.requires in
-    λ other. c.swap_at.ensures.entered id at other ∙ ap (λ (v : Numbered ℕ Silence). eq_by_cmp nat_cmp other id || is_entered nat_cmp v other) c.self.view_is
+returns-clause-entered c = subst (λ (v : Numbered ℕ Silence). EntersAt nat_cmp v c.args.number c.swap_at.new.self) c.self.view_is c.swap_at.ensures.entered c.args.id.now c.requires
 
 pub returns-clause-places : goal.returns-clause-places
-returns-clause-places c = λ key. c.swap_at.ensures.places key ∙ ap (λ (v : Numbered ℕ Silence). has_place nat_cmp v key) c.self.view_is
+returns-clause-places c = subst (λ (v : Numbered ℕ Silence). SamePlaces nat_cmp v c.swap_at.new.self) c.self.view_is c.swap_at.ensures.places

@@ -1,16 +1,14 @@
-use Rattle.std.proofs.Common.{◌≡◌, ◌||◌, Some, ap, ◌∙◌}
-use Rattle.std.specs.Ordering.{eq_by_cmp}
+use Rattle.std.proofs.Common.{◌≡◌, Some, sym, ap, subst, ◌∙◌}
 use Rattle.amr_labels.specs.Labels.{LabelSet, label_set_cmp, label_set_cmp_total, label_set_cmp-IsAntisymmetric}
 use Rattle.amr_engine.specs.State.Timed.{alert_moment}
-use Rattle.amr_labels.specs.Map as map
 use Rattle.amr_rules.specs.declared.alert.Alert.{Alert}
-use Rattle.amr_tables.specs.Numbered.{Numbered, map_of, number_of, has_place, is_entered}
+use Rattle.amr_tables.specs.Numbered.{Numbered, number_of, IsNumber, IsValueOf, IsMarkOf, IsSetAt, SamePlaces, EntersAt}
 use Rattle.amr_engine.proofs.IndexesLemmas.Arriving.{arrived_same}
 use Rattle.amr_engine.proofs.StateLemmas.Scheduling.{scheduled_set, ordered_before}
 use Rattle.amr_engine.proofs.state.alert_table.AlertTable.swap_at.Goals as goal
 
 pub swap_at-was_entered-requires : goal.swap_at-was_entered-requires
-swap_at-was_entered-requires c = (c.requires.0, ap (λ (v : Numbered LabelSet Alert). number_of label_set_cmp v c.requires.0) c.self.view_is ∙ c.requires.1)
+swap_at-was_entered-requires c = subst (λ (v : Numbered LabelSet Alert). IsNumber label_set_cmp v c.args.number) (sym c.self.view_is) c.requires
 
 pub update-requires-clause-room : goal.update-requires-clause-room
 update-requires-clause-room c = c.self.invariant.0.removed.room c.requires.0 c.args.number (ap (λ (v : Numbered LabelSet Alert). number_of label_set_cmp v c.requires.0) c.self.view_is ∙ c.requires.1)
@@ -35,24 +33,16 @@ invariant_of-self c =
     )
 
 pub returns-clause-former : goal.returns-clause-former
-returns-clause-former c = λ labels at.
-    let number = ap (λ (v : Numbered LabelSet Alert). number_of label_set_cmp v labels) c.self.view_is ∙ at in
-    c.swap_at-was_entered.ensures.former labels number ∙ ap (λ (v : Numbered LabelSet Alert). map.get (map_of label_set_cmp v) labels) c.self.view_is
+returns-clause-former c = subst (λ (v : Numbered LabelSet Alert). IsValueOf label_set_cmp v c.args.number c.swap_at-was_entered.new.value) c.self.view_is c.swap_at-was_entered.ensures.former
 
 pub returns-clause-was_entered : goal.returns-clause-was_entered
-returns-clause-was_entered c = λ labels at.
-    let number = ap (λ (v : Numbered LabelSet Alert). number_of label_set_cmp v labels) c.self.view_is ∙ at in
-    c.swap_at-was_entered.ensures.was_entered labels number ∙ ap (λ (v : Numbered LabelSet Alert). is_entered label_set_cmp v labels) c.self.view_is
+returns-clause-was_entered c = subst (λ (v : Numbered LabelSet Alert). IsMarkOf label_set_cmp v c.args.number c.swap_at-was_entered.result) c.self.view_is c.swap_at-was_entered.ensures.was_entered
 
 pub returns-clause-shown : goal.returns-clause-shown
-returns-clause-shown c = λ labels at.
-    let number = ap (λ (v : Numbered LabelSet Alert). number_of label_set_cmp v labels) c.self.view_is ∙ at in
-    c.swap_at-was_entered.ensures.shown labels number ∙ ap (λ (v : Numbered LabelSet Alert). map.set (map_of label_set_cmp v) labels c.args.alert.now) c.self.view_is
+returns-clause-shown c = subst (λ (v : Numbered LabelSet Alert). IsSetAt label_set_cmp v c.args.number c.args.alert.now c.swap_at-was_entered.new.self) c.self.view_is c.swap_at-was_entered.ensures.shown
 
 pub returns-clause-places : goal.returns-clause-places
-returns-clause-places c = λ other. c.swap_at-was_entered.ensures.places other ∙ ap (λ (v : Numbered LabelSet Alert). has_place label_set_cmp v other) c.self.view_is
+returns-clause-places c = subst (λ (v : Numbered LabelSet Alert). SamePlaces label_set_cmp v c.swap_at-was_entered.new.self) c.self.view_is c.swap_at-was_entered.ensures.places
 
 pub returns-clause-entered : goal.returns-clause-entered
-returns-clause-entered c = λ labels at other.
-    let number = ap (λ (v : Numbered LabelSet Alert). number_of label_set_cmp v labels) c.self.view_is ∙ at in
-    c.swap_at-was_entered.ensures.entered labels number other ∙ ap (λ (v : Numbered LabelSet Alert). eq_by_cmp label_set_cmp other labels || is_entered label_set_cmp v other) c.self.view_is
+returns-clause-entered c = subst (λ (v : Numbered LabelSet Alert). EntersAt label_set_cmp v c.args.number c.swap_at-was_entered.new.self) c.self.view_is c.swap_at-was_entered.ensures.entered

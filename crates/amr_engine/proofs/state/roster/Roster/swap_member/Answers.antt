@@ -1,9 +1,8 @@
-use Rattle.std.proofs.Common.{◌≡◌, cond, length, sym, ap, ◌∙◌, arith}
+use Rattle.std.proofs.Common.{cond, length, sym, ap, subst, ◌∙◌, arith}
 use Rattle.std.specs.Prelude.{◌==◌}
 use Rattle.std.proofs.lemmas.List.{length-set}
-use Rattle.amr_labels.specs.Map as map
 use Rattle.amr_tables.specs.Places.{is_marked}
-use Rattle.amr_tables.specs.Numbered.{map_of, has_place, is_entered, number_of}
+use Rattle.amr_tables.specs.Numbered.{number_of, IsNumber, IsValueOf, IsMarkOf, IsSetAt, SamePlaces}
 use Rattle.amr_config.specs.RouteLabels.{route_labels_cmp}
 use Rattle.amr_engine.specs.State.Rostered.{Rostered}
 use Rattle.amr_engine.proofs.StateLemmas.Rostering.{grouped_set}
@@ -17,7 +16,7 @@ set-requires c =
     omega (arith, less, c.self.invariant.0.homes)
 
 pub swap_at-requires : goal.swap_at-requires
-swap_at-requires c = (c.requires.0, ap (λ (t : Rostered). number_of route_labels_cmp t.placements c.requires.0) c.self.view_is ∙ c.requires.1)
+swap_at-requires c = subst (λ (v : Rostered). IsNumber route_labels_cmp v.placements c.args.number) (sym c.self.view_is) c.requires
 
 pub invariant_of-self : goal.invariant_of-self
 invariant_of-self c =
@@ -31,19 +30,13 @@ invariant_of-self c =
     )
 
 pub returns-clause-former : goal.returns-clause-former
-returns-clause-former c = λ key at.
-    let number = ap (λ (t : Rostered). number_of route_labels_cmp t.placements key) c.self.view_is ∙ at in
-    c.swap_at.ensures.former key number ∙ ap (λ (t : Rostered). map.get (map_of route_labels_cmp t.placements) key) c.self.view_is
+returns-clause-former c = subst (λ (v : Rostered). IsValueOf route_labels_cmp v.placements c.args.number c.swap_at.new.value) c.self.view_is c.swap_at.ensures.former
 
 pub returns-clause-was_entered : goal.returns-clause-was_entered
-returns-clause-was_entered c = λ key at.
-    let number = ap (λ (t : Rostered). number_of route_labels_cmp t.placements key) c.self.view_is ∙ at in
-    c.swap_at.ensures.was_entered key number ∙ ap (λ (t : Rostered). is_entered route_labels_cmp t.placements key) c.self.view_is
+returns-clause-was_entered c = subst (λ (v : Rostered). IsMarkOf route_labels_cmp v.placements c.args.number c.swap_at.result) c.self.view_is c.swap_at.ensures.was_entered
 
 pub returns-clause-shown : goal.returns-clause-shown
-returns-clause-shown c = λ key at.
-    let number = ap (λ (t : Rostered). number_of route_labels_cmp t.placements key) c.self.view_is ∙ at in
-    c.swap_at.ensures.shown key number ∙ ap (λ (t : Rostered). map.set (map_of route_labels_cmp t.placements) key c.args.alert.now) c.self.view_is
+returns-clause-shown c = subst (λ (v : Rostered). IsSetAt route_labels_cmp v.placements c.args.number c.args.alert.now c.swap_at.new.self) c.self.view_is c.swap_at.ensures.shown
 
 pub returns-clause-places : goal.returns-clause-places
-returns-clause-places c = λ other. c.swap_at.ensures.places other ∙ ap (λ (r : Rostered). has_place route_labels_cmp r.placements other) c.self.view_is
+returns-clause-places c = subst (λ (v : Rostered). SamePlaces route_labels_cmp v.placements c.swap_at.new.self) c.self.view_is c.swap_at.ensures.places

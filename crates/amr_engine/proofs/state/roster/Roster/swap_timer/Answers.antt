@@ -1,9 +1,7 @@
-use Rattle.std.proofs.Common.{◌≡◌, ◌||◌, Some, length, refl, ap, ◌∙◌}
+use Rattle.std.proofs.Common.{◌≡◌, Some, length, refl, sym, ap, subst, ◌∙◌}
 use Rattle.std.proofs.Math.Nat.{le_refl}
 use Rattle.std.proofs.lemmas.List.{length-set}
-use Rattle.std.specs.Ordering.{eq_by_cmp}
-use Rattle.amr_labels.specs.Map as map
-use Rattle.amr_tables.specs.Numbered.{map_of, number_of, has_place, is_entered}
+use Rattle.amr_tables.specs.Numbered.{number_of, IsNumber, IsValueOf, IsMarkOf, IsSetAt, SamePlaces, EntersAt}
 use Rattle.amr_engine.specs.State.Rostered.{Rostered}
 use Rattle.amr_engine.specs.declared.state.due.Kind.TheVariants.{GroupRemoval, GroupFlush}
 use Rattle.amr_engine.specs.State.Timed.{group_moment}
@@ -13,7 +11,7 @@ use Rattle.amr_engine.proofs.StateLemmas.Scheduling.{scheduled_set, ordered_befo
 use Rattle.amr_engine.proofs.state.roster.Roster.swap_timer.Goals as goal
 
 pub swap_at-was_entered-requires : goal.swap_at-was_entered-requires
-swap_at-was_entered-requires c = (c.requires.0, ap (λ (v : Rostered). number_of route_labels_cmp v.timers c.requires.0) c.self.view_is ∙ c.requires.1)
+swap_at-was_entered-requires c = subst (λ (v : Rostered). IsNumber route_labels_cmp v.timers c.args.number) (sym c.self.view_is) c.requires
 
 pub update-requires-clause-room : goal.update-requires-clause-room
 update-requires-clause-room c = c.self.invariant.1.flushed.room c.requires.0 c.args.number (ap (λ (v : Rostered). number_of route_labels_cmp v.timers c.requires.0) c.self.view_is ∙ c.requires.1)
@@ -46,24 +44,16 @@ invariant_of-self c =
     )
 
 pub returns-clause-former : goal.returns-clause-former
-returns-clause-former c = λ group at.
-    let number = ap (λ (v : Rostered). number_of route_labels_cmp v.timers group) c.self.view_is ∙ at in
-    c.swap_at-was_entered.ensures.former group number ∙ ap (λ (v : Rostered). map.get (map_of route_labels_cmp v.timers) group) c.self.view_is
+returns-clause-former c = subst (λ (v : Rostered). IsValueOf route_labels_cmp v.timers c.args.number c.swap_at-was_entered.new.value) c.self.view_is c.swap_at-was_entered.ensures.former
 
 pub returns-clause-was_entered : goal.returns-clause-was_entered
-returns-clause-was_entered c = λ group at.
-    let number = ap (λ (v : Rostered). number_of route_labels_cmp v.timers group) c.self.view_is ∙ at in
-    c.swap_at-was_entered.ensures.was_entered group number ∙ ap (λ (v : Rostered). is_entered route_labels_cmp v.timers group) c.self.view_is
+returns-clause-was_entered c = subst (λ (v : Rostered). IsMarkOf route_labels_cmp v.timers c.args.number c.swap_at-was_entered.result) c.self.view_is c.swap_at-was_entered.ensures.was_entered
 
 pub returns-clause-shown : goal.returns-clause-shown
-returns-clause-shown c = λ group at.
-    let number = ap (λ (v : Rostered). number_of route_labels_cmp v.timers group) c.self.view_is ∙ at in
-    c.swap_at-was_entered.ensures.shown group number ∙ ap (λ (v : Rostered). map.set (map_of route_labels_cmp v.timers) group c.args.timer.now) c.self.view_is
+returns-clause-shown c = subst (λ (v : Rostered). IsSetAt route_labels_cmp v.timers c.args.number c.args.timer.now c.swap_at-was_entered.new.self) c.self.view_is c.swap_at-was_entered.ensures.shown
 
 pub returns-clause-places : goal.returns-clause-places
-returns-clause-places c = λ other. c.swap_at-was_entered.ensures.places other ∙ ap (λ (v : Rostered). has_place route_labels_cmp v.timers other) c.self.view_is
+returns-clause-places c = subst (λ (v : Rostered). SamePlaces route_labels_cmp v.timers c.swap_at-was_entered.new.self) c.self.view_is c.swap_at-was_entered.ensures.places
 
 pub returns-clause-entered : goal.returns-clause-entered
-returns-clause-entered c = λ group at other.
-    let number = ap (λ (v : Rostered). number_of route_labels_cmp v.timers group) c.self.view_is ∙ at in
-    c.swap_at-was_entered.ensures.entered group number other ∙ ap (λ (v : Rostered). eq_by_cmp route_labels_cmp other group || is_entered route_labels_cmp v.timers other) c.self.view_is
+returns-clause-entered c = subst (λ (v : Rostered). EntersAt route_labels_cmp v.timers c.args.number c.swap_at-was_entered.new.self) c.self.view_is c.swap_at-was_entered.ensures.entered
