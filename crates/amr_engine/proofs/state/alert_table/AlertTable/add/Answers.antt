@@ -1,17 +1,13 @@
 use Rattle.std.proofs.Common.{◌≡◌, ◌∷◌, ◌++◌, [], None, arith, sym, ap, subst, ◌∙◌}
-use Rattle.std.specs.Prelude.{Result, Ok, Err, OnOk}
 use Rattle.amr_labels.specs.Labels.{LabelSet, label_set_cmp, label_set_cmp_total, label_set_cmp-IsAntisymmetric}
 use Rattle.amr_rules.specs.declared.alert.Alert.{Alert}
 use Rattle.amr_tables.specs.Numbered.{Numbered, number_of, next_number, GetsNumber}
 use Rattle.amr_engine.specs.Indexes.RuleSources.{AllArrived}
 use Rattle.amr_engine.specs.State.Timed.{IsScheduled, alert_moment}
+use Rattle.amr_engine.proofs.Notifying.{on_ok}
 use Rattle.amr_engine.proofs.IndexesLemmas.Arriving.{arrived_more}
 use Rattle.amr_engine.proofs.StateLemmas.Scheduling.{scheduled_same, scheduled_roomier, scheduled_placed, unplaced}
 use Rattle.amr_engine.proofs.state.alert_table.AlertTable.add.Goals as goal
-
-on_ok : {T E : Type 0} (r : Result T E) (P Q : Type 0) → (P → Q) → OnOk r P → OnOk r Q
-on_ok (Ok x) P Q f p = f p
-on_ok (Err e) P Q f p = p
 
 pub invariant_of-self : goal.invariant_of-self
 invariant_of-self c =

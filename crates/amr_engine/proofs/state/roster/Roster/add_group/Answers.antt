@@ -1,5 +1,4 @@
-use Rattle.std.proofs.Common.{◌≡◌, None, IsTrue, length, refl, sym, ap, subst, ◌∙◌, arith}
-use Rattle.amr_tables.specs.Places.{value_at}
+use Rattle.std.proofs.Common.{◌≡◌, None, IsTrue, refl, sym, ap, subst, ◌∙◌, arith}
 use Rattle.amr_tables.specs.Numbered.{number_of, next_number, has_place, is_entered, GetsNumber}
 use Rattle.amr_config.specs.RouteLabels.{route_labels_cmp, route_labels_cmp_total, route_labels_cmp-IsAntisymmetric}
 use Rattle.amr_engine.specs.declared.state.due.Kind.TheVariants.{GroupRemoval, GroupFlush}

@@ -1,25 +1,17 @@
-use Rattle.std.proofs.Common.{sym, ap, subst, ◌∙◌}
+use Rattle.std.proofs.Common.{sym, ap, ◌∙◌}
 use Rattle.std.specs.Ordering.{nat_cmp}
 use Rattle.amr_tables.specs.Numbered.{number_of}
 use Rattle.amr_config.specs.RouteLabels.{route_labels_cmp}
-use Rattle.amr_engine.specs.State.Stored.{IsPlaceOf}
 use Rattle.amr_engine.proofs.state.tables.Tables.find.Goals as goal
 
 pub returns-in-OfMember : goal.returns-in-OfMember
-returns-in-OfMember c =
-    subst (λ e. IsPlaceOf c.args.self.now e c.number_in-in-OfMember.result) (sym c.in-OfMember.is)
-    (ap (λ t. number_of route_labels_cmp t c.in-OfMember.member) (sym c.placements.ensures) ∙ c.number_in-in-OfMember.ensures)
+returns-in-OfMember c = rw c.in-OfMember.is (ap (λ t. number_of route_labels_cmp t c.in-OfMember.member) (sym c.placements.ensures) ∙ c.number_in-in-OfMember.ensures)
 
 pub returns-in-OfTimer : goal.returns-in-OfTimer
-returns-in-OfTimer c =
-    subst (λ e. IsPlaceOf c.args.self.now e c.number_in-in-OfTimer.result) (sym c.in-OfTimer.is)
-    (ap (λ t. number_of route_labels_cmp t c.in-OfTimer.group) (sym c.timers.ensures) ∙ c.number_in-in-OfTimer.ensures)
+returns-in-OfTimer c = rw c.in-OfTimer.is (ap (λ t. number_of route_labels_cmp t c.in-OfTimer.group) (sym c.timers.ensures) ∙ c.number_in-in-OfTimer.ensures)
 
 pub returns-in-OfSilence : goal.returns-in-OfSilence
-returns-in-OfSilence c =
-    subst (λ e. IsPlaceOf c.args.self.now e c.number_in-in-OfSilence.result) (sym c.in-OfSilence.is)
-    (ap (λ t. number_of nat_cmp t c.in-OfSilence.id) (sym c.silences.ensures) ∙ c.number_in-in-OfSilence.ensures)
+returns-in-OfSilence c = rw c.in-OfSilence.is (ap (λ t. number_of nat_cmp t c.in-OfSilence.id) (sym c.silences.ensures) ∙ c.number_in-in-OfSilence.ensures)
 
 pub returns-in-OfLog : goal.returns-in-OfLog
-returns-in-OfLog c =
-    subst (λ e. IsPlaceOf c.args.self.now e c.number_in-in-OfLog.result) (sym c.in-OfLog.is) c.number_in-in-OfLog.ensures
+returns-in-OfLog c = rw c.in-OfLog.is c.number_in-in-OfLog.ensures
