@@ -6,6 +6,7 @@ use Rattle.std.specs.List.{list_all, filter}
 use Rattle.std.proofs.Common.{refl, sym, ap, ◌∙◌, subst, arith, get_or, drop, inl, inr}
 use Rattle.std.proofs.lemmas.List.{at_drop_more}
 use Rattle.std.proofs.lemmas.Bool.Decides.{nat_tests}
+use Rattle.std.proofs.lemmas.Bool.{and_parts}
 use Rattle.amr_labels.specs.Map.{Map, entries, get, insert, remove, empty, get-empty}
 use Rattle.amr_labels.specs.Labels.{LabelSet}
 use Rattle.amr_time.specs.Time.{Moment, Span}
@@ -36,10 +37,10 @@ use Rattle.amr_engine.specs.Events.{put}
 use Rattle.amr_engine.specs.Flush.{Members, let_through, labels_of, log_key_of, flush}
 use Rattle.amr_engine.specs.Quiet.{is_outside, no_alert_ends, no_source_ends, no_silence_turns, all_fire_until, is_untimed, no_repeat_before, is_notified, are_notified, with_timer_reset, IsStill, IsQuiet, IsQuietWith, IsAllNotified, LeavesOthers}
 use Rattle.amr_engine.specs.CachedQuiet.{Times, times_in, quiet_times, IsNotifiedIn, IsQuietSince, IsTrueTime, IsTrueOf, Outlasts, without_joined}
-use Rattle.amr_engine.proofs.FewerNotified.{both}
 use Rattle.amr_engine.proofs.QuietLaws.{quiet_flush, notified_quiet, stays_quiet}
 use Rattle.amr_engine.proofs.NotifiedStays.{beside_notified, left_notified, other_key, still_cached, now_cached, left_by_post}
 use Rattle.amr_engine.proofs.QuietStays.{flush_leaves, quiet_left, still_left}
+use Rattle.amr_engine.proofs.Listed.{none_left}
 
 -- ---- what is cached
 
@@ -261,15 +262,15 @@ module _ (from at until end : Moment) (later : from ≤ at) (sooner : end ≤ un
   alerts_later : (stored : List (LabelSet × Alert)) → list_all (λ one. is_outside from until one.1.ends_at) stored ≡ true → list_all (λ one. is_outside at end one.1.ends_at) stored ≡ true
   alerts_later [] still = refl
   alerts_later (one ∷ stored) still =
-      let parts = both (is_outside from until one.1.ends_at) (list_all (λ one. is_outside from until one.1.ends_at) stored) still in
+      let parts = and_parts (is_outside from until one.1.ends_at) (list_all (λ one. is_outside from until one.1.ends_at) stored) still in
       (λ i. outside_later from at until end one.1.ends_at later sooner parts.0 i && alerts_later stored parts.1 i)
 
   silences_later : (stored : List (ℕ × Silence)) → list_all (λ one. is_outside from until one.1.starts_at && is_outside from until one.1.ends_at) stored ≡ true
       → list_all (λ one. is_outside at end one.1.starts_at && is_outside at end one.1.ends_at) stored ≡ true
   silences_later [] still = refl
   silences_later (one ∷ stored) still =
-      let parts = both (is_outside from until one.1.starts_at && is_outside from until one.1.ends_at) (list_all (λ one. is_outside from until one.1.starts_at && is_outside from until one.1.ends_at) stored) still in
-      let ends = both (is_outside from until one.1.starts_at) (is_outside from until one.1.ends_at) parts.0 in
+      let parts = and_parts (is_outside from until one.1.starts_at && is_outside from until one.1.ends_at) (list_all (λ one. is_outside from until one.1.starts_at && is_outside from until one.1.ends_at) stored) still in
+      let ends = and_parts (is_outside from until one.1.starts_at) (is_outside from until one.1.ends_at) parts.0 in
       (λ i. (outside_later from at until end one.1.starts_at later sooner ends.0 i && outside_later from at until end one.1.ends_at later sooner ends.1 i) && silences_later stored parts.1 i)
 
   sources_later : (rules : List InhibitRule) (alerts : Alerts) → no_source_ends from until rules alerts ≡ true → no_source_ends at end rules alerts ≡ true
@@ -283,7 +284,7 @@ module _ (from at until end : Moment) (later : from ≤ at) (sooner : end ≤ un
 pub fire_sooner : (until end : Moment) → end ≤ until → (ms : Members) → all_fire_until until ms ≡ true → all_fire_until end ms ≡ true
 fire_sooner until end sooner [] fire = refl
 fire_sooner until end sooner (m ∷ ms) fire =
-    let parts = both (nat_le until m.1.ends_at) (all_fire_until until ms) fire in
+    let parts = and_parts (nat_le until m.1.ends_at) (all_fire_until until ms) fire in
     let here : nat_le end m.1.ends_at ≡ true = grind (arith, nat_tests) in
     (λ i. here i && fire_sooner until end sooner ms parts.1 i)
 
@@ -296,7 +297,7 @@ module _ (s : State) (group : RouteLabels) (from : Moment) (firing : LabelSets) 
   notified_sooner until end sooner integration notified =
       let interval : Span = repeat_interval_of s.config group.route in
       let entry : Option LogEntry = get s.log (log_key_of s.config group integration) in
-      let parts = both (not (needs_update entry firing (labels_of []) integration.send_resolved from interval)) (no_repeat_before until interval entry) notified in
+      let parts = and_parts (not (needs_update entry firing (labels_of []) integration.send_resolved from interval)) (no_repeat_before until interval entry) notified in
       (λ i. parts.0 i && sooner_repeat until end sooner interval entry parts.1 i)
 
   -- one integration more
@@ -341,10 +342,6 @@ pub still_rest : (s : State) (from at until : Moment) → from ≤ at → IsStil
 still_rest s from at until later still =
     let all : until ≤ until = omega arith in
     still_later from at until until later all s still
-
-none_left : (rules : List InhibitRule) → (length rules == 0) ≡ true → rules ≡ []
-none_left [] none = refl
-none_left (rule ∷ rules) none = absurd (grind (arith, nat_tests))
 
 pub no_rules : (config notified : Config) (asked : List InhibitRule) (b : Bool) → notified ≡ config → asked ≡ notified.rules → b ≡ (length asked == 0) → b ≡ true → config.rules ≡ []
 no_rules config notified asked b same rules counted none =

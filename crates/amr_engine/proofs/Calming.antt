@@ -6,13 +6,12 @@ use Rattle.std.specs.Ordering.{eq_by_cmp, is_eq}
 use Rattle.std.proofs.Common.{refl, sym, ap, ◌∙◌, subst, inl, inr, arith}
 use Rattle.std.proofs.lemmas.Cmp.{tied_itself}
 use Rattle.std.proofs.lemmas.Option.{same_Some}
-use Rattle.amr_labels.specs.Map.{Map, get, insert, entries, get-entries, entries-sorted, get-insert, same_map}
-use Rattle.amr_labels.specs.Labels.{LabelSet, label_set_cmp, label_set_cmp_total, label_set_cmp-IsAntisymmetric}
+use Rattle.amr_labels.specs.Map.{Map, get, insert, entries, get-insert}
+use Rattle.amr_labels.specs.Labels.{label_set_cmp_total, label_set_cmp-IsAntisymmetric}
 use Rattle.amr_time.specs.Time.{Moment, second, next_multiple_of}
 use Rattle.amr_config.specs.Routing.{group_interval_of}
 use Rattle.amr_config.specs.declared.route_labels.RouteLabels.{RouteLabels}
 use Rattle.amr_config.specs.RouteLabels.{on_route, route_labels_cmp, route_labels_cmp_total, route_labels_cmp-IsAntisymmetric}
-use Rattle.amr_rules.specs.declared.alert.Alert.{Alert}
 use Rattle.amr_rules.specs.Muting.{Alerts}
 use Rattle.amr_engine.specs.declared.state.notification.GroupTimer.{GroupTimer}
 use Rattle.amr_engine.specs.State.State.{State}
@@ -35,37 +34,23 @@ use Rattle.amr_engine.specs.Weight.{move_weight, first_weight}
 use Rattle.amr_engine.specs.Said.{IsIn}
 use Rattle.amr_engine.specs.Calm.{AreNoneRemoved, IsQuietBeyond, IsCalm}
 use Rattle.amr_engine.proofs.Cascade.{advance_none, advance_over, advance_some, plus_twice}
-use Rattle.amr_engine.proofs.Lasting.{In, found_in, in_found, in_map, in_right, timer_among, from_map, from_filter_map, in_either, timer_got, alert_dues, empty_dues, flush_dues, dues_are, next_is_due, some_due}
+use Rattle.amr_engine.proofs.PlacedLists.{IsAmong, among_entries, get-among, get-inserted, get-insert_cases}
+use Rattle.amr_engine.proofs.Lasting.{in_map, in_right, timer_among, from_map, from_filter_map, in_either, timer_got, alert_dues, empty_dues, flush_dues, dues_are, next_is_due, some_due}
 use Rattle.std.proofs.Math.Nat.{mul-le-mul_right}
 use Rattle.std.proofs.lemmas.Nat.{div-add-mod'}
 use Rattle.amr_engine.proofs.CachedQuiet.{stays_true}
 use Rattle.amr_engine.proofs.QuietLaws.{quiet_flush, stays_quiet}
-use Rattle.amr_engine.proofs.QuietStays.{apart, equal}
-use Rattle.std.proofs.lemmas.Bool.{true≢false}
+use Rattle.amr_engine.proofs.QuietStays.{apart}
+use Rattle.std.proofs.lemmas.Bool.{true≢false, or_right}
 use Rattle.std.proofs.lemmas.Bool.Decides.{nat_tests}
-use Rattle.amr_engine.proofs.StateLemmas.Least.{not_later, or_right}
+use Rattle.std.proofs.lemmas.Map.Views.{tells_apart}
+use Rattle.amr_engine.proofs.StateLemmas.Least.{not_later}
+use Rattle.amr_engine.proofs.StateLemmas.Undoing.{set-set, set-swap}
 
 abbrev Timers : Type 0
 Timers = Map route_labels_cmp GroupTimer
 
-alert_got : (alerts : Alerts) (labels : LabelSet) (alert : Alert) → In (labels, alert) (entries alerts) → get alerts labels ≡ Some alert
-alert_got alerts labels alert among =
-    get-entries alerts labels ∙ in_found label_set_cmp label_set_cmp_total label_set_cmp-IsAntisymmetric (entries alerts) labels alert (entries-sorted alerts) among
-
 -- ---- a timer that is set
-
--- a timer is the one that was set, or one that was there
-got_after : (timers : Timers) (group : RouteLabels) (new : GroupTimer) (other : RouteLabels) (its : GroupTimer) → get (insert timers group new) other ≡ Some its
-    → ((other ≡ group) × (its ≡ new)) ⊎ (get timers other ≡ Some its)
-got_after timers group new other its got =
-    elim (eq_by_cmp route_labels_cmp other group) as (λ b. eq_by_cmp route_labels_cmp other group ≡ b → cond b (Some new) (get timers other) ≡ Some its → ((other ≡ group) × (its ≡ new)) ⊎ (get timers other ≡ Some its)) [
-      | true ↦ λ is e. inl (route_labels_cmp-IsAntisymmetric other group (equal _ is), ap (λ (o : Option GroupTimer). option_map_or (λ t. t) o its) (sym e))
-      | false ↦ λ is e. inr e
-    ] refl (sym (get-insert route_labels_cmp_total timers group new other) ∙ got)
-
-got_own : (timers : Timers) (group : RouteLabels) (new : GroupTimer) → get (insert timers group new) group ≡ Some new
-got_own timers group new =
-    get-insert route_labels_cmp_total timers group new group ∙ ap (λ o. cond (is_eq o) (Some new) (get timers group)) (tied_itself route_labels_cmp_total group)
 
 got_other : (timers : Timers) (group other : RouteLabels) (new : GroupTimer) → (other ≡ group → ⊥) → get (insert timers group new) other ≡ get timers other
 got_other timers group other new differ =
@@ -74,30 +59,12 @@ got_other timers group other new differ =
 -- two timers can be set in either order
 set_both : (timers : Timers) (a b : RouteLabels) (x y : GroupTimer) → (a ≡ b → ⊥) → insert (insert timers a x) b y ≡ insert (insert timers b y) a x
 set_both timers a b x y differ =
-    same_map route_labels_cmp_total route_labels_cmp-IsAntisymmetric _ _ (λ q.
-    get-insert route_labels_cmp_total (insert timers a x) b y q
-    ∙ ap (λ o. cond (eq_by_cmp route_labels_cmp q b) (Some y) o) (get-insert route_labels_cmp_total timers a x q)
-    ∙ swapped q (eq_by_cmp route_labels_cmp q a) (eq_by_cmp route_labels_cmp q b) refl refl
-    ∙ sym (get-insert route_labels_cmp_total (insert timers b y) a x q ∙ ap (λ o. cond (eq_by_cmp route_labels_cmp q a) (Some x) o) (get-insert route_labels_cmp_total timers b y q)))
-  where
-    swapped : (q : RouteLabels) (p r : _) → eq_by_cmp route_labels_cmp q a ≡ p → eq_by_cmp route_labels_cmp q b ≡ r → cond r (Some y) (cond p (Some x) (get timers q)) ≡ cond p (Some x) (cond r (Some y) (get timers q))
-    swapped q true true e f = absurd (differ (sym (route_labels_cmp-IsAntisymmetric q a (equal _ e)) ∙ route_labels_cmp-IsAntisymmetric q b (equal _ f)))
-    swapped q true false e f = refl
-    swapped q false true e f = refl
-    swapped q false false e f = refl
+    set-swap route_labels_cmp_total route_labels_cmp-IsAntisymmetric timers a b (Some x) (Some y) (apart route_labels_cmp-IsAntisymmetric a b differ)
 
 -- of a timer that is set twice, the second counts
 set_again : (timers : Timers) (group : RouteLabels) (x y : GroupTimer) → insert (insert timers group x) group y ≡ insert timers group y
 set_again timers group x y =
-    same_map route_labels_cmp_total route_labels_cmp-IsAntisymmetric _ _ (λ q.
-    get-insert route_labels_cmp_total (insert timers group x) group y q
-    ∙ ap (λ o. cond (eq_by_cmp route_labels_cmp q group) (Some y) o) (get-insert route_labels_cmp_total timers group x q)
-    ∙ second q (eq_by_cmp route_labels_cmp q group)
-    ∙ sym (get-insert route_labels_cmp_total timers group y q))
-  where
-    second : (q : RouteLabels) (p : _) → cond p (Some y) (cond p (Some x) (get timers q)) ≡ cond p (Some y) (get timers q)
-    second q true = refl
-    second q false = refl
+    set-set route_labels_cmp_total route_labels_cmp-IsAntisymmetric timers group group (Some x) (Some y) (ap is_eq (tied_itself route_labels_cmp_total group))
 
 -- the group's next flush is at this moment, and it was flushed
 abbrev pub set_at : State → RouteLabels → GroupTimer → Moment → State
@@ -128,7 +95,7 @@ module _ (at : Moment) (alerts : Alerts) (timers : Timers) (none : AreNoneRemove
   removed_later d among = elim (in_either d (map alert_removal_of (entries alerts)) (filter_map group_removal_of (entries timers)) among) [
     | inl alert ↦
         let e = from_map alert_removal_of d (entries alerts) alert in
-        subst (λ (x : Due). at < x.moment) (sym e.2) (none.of_alerts e.0.0 e.0.1 (alert_got alerts e.0.0 e.0.1 e.1))
+        subst (λ (x : Due). at < x.moment) (sym e.2) (none.of_alerts e.0.0 e.0.1 (get-among label_set_cmp_total label_set_cmp-IsAntisymmetric alerts e.0.0 e.0.1 e.1))
     | inr empty ↦
         let e = from_filter_map group_removal_of d (entries timers) empty in
         later_of_group e.0 d (timer_got timers e.0.0 e.0.1 e.1) e.2
@@ -182,15 +149,15 @@ module _ (at : Moment) where
       record {
         removed = record {
           of_alerts = calm.removed.of_alerts;
-          of_groups = λ other its removal got is. elim (got_after s.timers group new other its got) [
-            | inl same ↦ calm.removed.of_groups group timer removal timed (sym (ap group_removal_at same.1) ∙ is)
+          of_groups = λ other its removal got is. elim (get-insert_cases route_labels_cmp_total route_labels_cmp-IsAntisymmetric s.timers group new other its got) [
+            | inl same ↦ calm.removed.of_groups group timer removal timed (ap group_removal_at same.1 ∙ is)
             | inr before ↦ calm.removed.of_groups other its removal before is
           ];
         };
-        flushed = λ other its got due. elim (got_after s.timers group new other its got) [
+        flushed = λ other its got due. elim (get-insert_cases route_labels_cmp_total route_labels_cmp-IsAntisymmetric s.timers group new other its got) [
           | inl same ↦
               let quiet = calm.flushed group timer timed soon in
-              subst (λ (x : RouteLabels × GroupTimer). IsQuietBeyond at t x.0 x.1) (λ i. (sym same.0 i, sym same.1 i)) (record {
+              subst (λ (x : RouteLabels × GroupTimer). IsQuietBeyond at t x.0 x.1) (λ i. (sym same.0 i, same.1 i)) (record {
                 from = quiet.from;
                 until = quiet.until;
                 begun = omega (arith, quiet.begun, later);
@@ -238,7 +205,7 @@ module _ (at : Moment) where
       ∙ ap (λ r. plus_moves r 1) (elim (eq_by_cmp route_labels_cmp first.group group) as (λ b. eq_by_cmp route_labels_cmp first.group group ≡ b
       → counted_run (advance l at (once s first.group first.timer)) ≡ counted_run (advance l at (once s group timer))) [
         | true ↦ λ is.
-            let same : first.group ≡ group = route_labels_cmp-IsAntisymmetric first.group group (equal _ is) in
+            let same : first.group ≡ group = tells_apart route_labels_cmp-IsAntisymmetric first.group group is in
             let timers : first.timer ≡ timer =
             ap (λ (o : Option GroupTimer). option_map_or (λ t. t) o timer) (sym first.timed ∙ ap (get s.timers) same ∙ timed) in
             λ i. counted_run (advance l at (once s (same i) (timers i)))
@@ -280,7 +247,7 @@ module _ (at : Moment) where
       let one_more : 1 + suc k ≡ suc (suc k) = omega arith in
       any_first (suc k + l) s group timer calm timed soon
       ∙ ap (λ n. plus_moves (counted_run (advance n at (once s group timer))) 1) count
-      ∙ ap (λ r. plus_moves r 1) (all_first k l (once s group timer) group after (once_calm s group timer calm timed soon) (got_own s.timers group after) rest)
+      ∙ ap (λ r. plus_moves r 1) (all_first k l (once s group timer) group after (once_calm s group timer calm timed soon) (get-inserted route_labels_cmp_total route_labels_cmp-IsAntisymmetric s.timers group after) rest)
       ∙ plus_twice (counted_run (advance l at (later_by (once s group timer) group after (suc k)))) (suc k) 1
       ∙ ap (plus_moves (counted_run (advance l at (later_by (once s group timer) group after (suc k))))) one_more
       ∙ ap (λ (timers : Timers). plus_moves (counted_run (advance l at (record s { timers = timers }))) (suc (suc k)))
@@ -297,7 +264,7 @@ module _ (at : Moment) where
       let after : GroupTimer = record timer { next_flush = timer.next_flush + interval; flushed = true } in
       let rest : timer.next_flush + interval + l * interval ≤ at = omega (arith, late) in
       any_first l s group timer calm timed soon
-      ∙ ap (λ r. plus_moves r 1) (over_first l (once s group timer) group after (once_calm s group timer calm timed soon) (got_own s.timers group after) rest)
+      ∙ ap (λ r. plus_moves r 1) (over_first l (once s group timer) group after (once_calm s group timer calm timed soon) (get-inserted route_labels_cmp_total route_labels_cmp-IsAntisymmetric s.timers group after) rest)
 
 -- ---- what the code makes at once
 
@@ -426,8 +393,7 @@ calm_if_quiet at s timers is shown removed quiet = record {
 
 weighs : (s : State) (d : Due) (kind : Kind) → 1 ≤ move_weight s d kind
 weighs s d AlertRemoval = omega arith
-weighs s d GroupRemoval = omega arith
-weighs s d GroupFlush = omega arith
+weighs s d kind = omega arith
 
 module _ (at : Moment) where
   -- as many moves as were counted, or as the limit if there are more
@@ -464,7 +430,7 @@ in_left d [] ys h = absurd h
 in_left d (x ∷ xs) ys (inl e) = inl e
 in_left d (x ∷ xs) ys (inr h) = inr (in_left d xs ys h)
 
-in_filter_map : {A : Type 0} (f : A → Option Due) (e : A) (d : Due) (es : List A) → In e es → f e ≡ Some d → IsIn d (filter_map f es)
+in_filter_map : {A : Type 0} (f : A → Option Due) (e : A) (d : Due) (es : List A) → IsAmong e es → f e ≡ Some d → IsIn d (filter_map f es)
 in_filter_map f e d [] h is = absurd h
 in_filter_map f e d (x ∷ es) (inl same) is =
     subst (λ o. IsIn d (cons_option o (filter_map f es))) (sym is ∙ ap f same) (inl refl)
@@ -492,7 +458,7 @@ in_has d [] h = absurd (true≢false (sym h))
 in_has d (x ∷ dues) h = by (eq_by_cmp due_cmp d x) refl h (in_has d dues)
   where
     by : (b : Bool) → eq_by_cmp due_cmp d x ≡ b → IsTrue (b || has due_cmp dues d) → (IsTrue (has due_cmp dues d) → IsIn d dues) → IsIn d (x ∷ dues)
-    by true is e rest = inl (due_cmp-IsAntisymmetric d x (equal _ is))
+    by true is e rest = inl (tells_apart due_cmp-IsAntisymmetric d x is)
     by false is e rest = inr (rest e)
 
 -- the first removal of a kind isn't due, if nothing is removed up to the moment
@@ -512,7 +478,7 @@ pub none_removed : (at : Moment) (alerts : Alerts) (timers : Timers) (alert grou
 none_removed at alerts timers alert group first_alert first_group later_alert later_group = record {
   of_alerts = λ labels stored got.
       let d = alert_removal_of (labels, stored) in
-      let among = found_in label_set_cmp label_set_cmp_total label_set_cmp-IsAntisymmetric (entries alerts) labels stored (sym (get-entries alerts labels) ∙ got) in
+      let among = among_entries label_set_cmp_total label_set_cmp-IsAntisymmetric alerts labels stored got in
       after_first at AlertRemoval (dues_of alerts timers) alert first_alert later_alert d refl
       (in_left d (map alert_removal_of (entries alerts) ++ filter_map group_removal_of (entries timers)) (map flush_of (entries timers))
       (in_left d (map alert_removal_of (entries alerts)) (filter_map group_removal_of (entries timers)) (in_map alert_removal_of (labels, stored) (entries alerts) among)));

@@ -1,14 +1,14 @@
 -- How many members a reload makes: one for each stored alert and each of its chosen routes.
-use Rattle.std.specs.Prelude.{◌≡◌, ℕ, zero, suc, Bool, true, false, T, List, [], ◌∷◌, ◌&&◌, None, Some, is_some, cond, length, ◌+◌, ◌≤◌}
+use Rattle.std.specs.Prelude.{◌≡◌, ℕ, zero, suc, Bool, true, false, T, List, [], ◌∷◌, None, Some, is_some, cond, length, ◌+◌, ◌≤◌}
 use Rattle.std.specs.List.{fold, filter, range_with_len}
 use Rattle.std.specs.declared.cmp.Ordering.{Ordering}
-use Rattle.std.specs.declared.cmp.Ordering.TheVariants.{Less, Equal, Greater}
-use Rattle.std.specs.Ordering.{eq_by_cmp, is_eq, is_lt}
+use Rattle.std.specs.declared.cmp.Ordering.TheVariants.{Less, Equal}
 use Rattle.std.specs.Cmp.{IsTotalOrder}
 use Rattle.std.specs.FinMap.Entries.{is_sorted, below_all, length-put}
 use Rattle.std.proofs.Common.{refl, sym, ap, ◌∙◌, arith}
 use Rattle.std.proofs.lemmas.Cmp.{tied_itself}
 use Rattle.std.proofs.lemmas.List.Sums.{sum_by-cons}
+use Rattle.amr_labels.proofs.Sorted.{first, second, less}
 use Rattle.amr_labels.specs.Map.{Map, get, insert, entries, empty, len, get-insert, get-empty, get-entries, entries-insert, entries-sorted}
 use Rattle.amr_labels.specs.Labels.{LabelSet, label_set_cmp, label_set_cmp_total}
 use Rattle.amr_config.specs.Stated.Config.{Config}
@@ -20,6 +20,8 @@ use Rattle.amr_config.specs.RouteLabels.{on_route, route_labels_cmp, route_label
 use Rattle.amr_engine.specs.State.State.{State, insert_into_group, insert_into_groups}
 use Rattle.amr_engine.specs.Events.{put, with_config}
 use Rattle.amr_engine.specs.Weight.{copies}
+use Rattle.amr_engine.proofs.QuietStays.{apart}
+use Rattle.amr_engine.proofs.PlacedPosts.{inserted_is, inserted_others}
 
 -- a new key makes a map longer by one
 longer : {K X : Type 0} {R : K → K → Ordering} → IsTotalOrder R → (m : Map R X) (k : K) (v : X) → get m k ≡ None → len (insert m k v) ≡ len m + 1
@@ -27,24 +29,11 @@ longer {R = R} o m k v none =
     ap length (entries-insert o m k v) ∙ length-put R o k v (entries m) (entries-sorted m)
     ∙ ap (λ x. cond (is_some x) (len m) (len m + 1)) (sym (get-entries m k) ∙ none)
 
-equal : (r : Ordering) → is_eq r ≡ true → r ≡ Equal
-equal Less e = absurd (cc)
-equal Equal e = refl
-equal Greater e = absurd (cc)
-
--- different keys don't compare as equal
-apart : (q k : RouteLabels) → (q ≡ k → ⊥) → eq_by_cmp route_labels_cmp q k ≡ false
-apart q k differ =
-    elim (eq_by_cmp route_labels_cmp q k) as (λ b. eq_by_cmp route_labels_cmp q k ≡ b → b ≡ false) [
-      | true ↦ λ e. absurd (differ (route_labels_cmp-IsAntisymmetric q k (equal (route_labels_cmp q k) e)))
-      | false ↦ λ e. refl
-    ] refl
-
 -- a member elsewhere leaves a key free
 still_free : (s : State) (labels : LabelSet) (alert : Alert) (route : ℕ) (q : RouteLabels) → (q ≡ on_route route labels → ⊥) → get s.placements q ≡ None → get (insert_into_group labels alert s route).placements q ≡ None
 still_free s labels alert route q differ free =
     get-insert route_labels_cmp_total s.placements (on_route route labels) alert q
-    ∙ ap (λ b. cond b (Some alert) (get s.placements q)) (apart q (on_route route labels) differ) ∙ free
+    ∙ ap (λ b. cond b (Some alert) (get s.placements q)) (apart route_labels_cmp-IsAntisymmetric q (on_route route labels) differ) ∙ free
 
 -- no member has these labels, on the routes from a number on
 abbrev pub IsFree : State → LabelSet → ℕ → Type 0
@@ -70,17 +59,8 @@ module _ (p : ℕ → Bool) (labels : LabelSet) (alert : Alert) where
         | false ↦ placed_len n (from + 1) s (λ route le. free route (omega (arith, le)))
       ]
 
-placed_free : (labels : LabelSet) (alert : Alert) (rs : List ℕ) (s : State) (q : RouteLabels) → (q.labels ≡ labels → ⊥) → get s.placements q ≡ None → get (fold (insert_into_group labels alert) s rs).placements q ≡ None
-placed_free labels alert [] s q differ free = free
-placed_free labels alert (r ∷ rs) s q differ free = placed_free labels alert rs (insert_into_group labels alert s r) q differ (still_free s labels alert r q (λ e. differ (ap (λ (x : RouteLabels). x.labels) e)) free)
-
-insert_into_group-config : (labels : LabelSet) (alert : Alert) (rs : List ℕ) (s : State) → (fold (insert_into_group labels alert) s rs).config ≡ s.config
-insert_into_group-config labels alert [] s = refl
-insert_into_group-config labels alert (r ∷ rs) s = insert_into_group-config labels alert rs (insert_into_group labels alert s r)
-
 pub insert_into_groups-config : (s : State) (alert : LabelSet × Alert) → (insert_into_groups s alert).config ≡ s.config
-unfolding insert_into_groups
-insert_into_groups-config s alert = insert_into_group-config alert.0 alert.1 (chosen_routes s.config alert.0) s
+insert_into_groups-config s alert = ap (λ (x : State). x.config) (inserted_is s alert.0 alert.1)
 
 pub put-config : (s : State) (alert : LabelSet × Alert) → (put s alert).config ≡ s.config
 unfolding put
@@ -91,39 +71,27 @@ unfolding insert_into_groups chosen_routes
 inserted_len s alert free = placed_len (is_chosen s.config alert.0) alert.0 alert.1 (length s.config.routes) 0 s free
 
 inserted_free : (s : State) (alert : LabelSet × Alert) (labels : LabelSet) → label_set_cmp alert.0 labels ≡ Less → IsFree s labels 0 → IsFree (insert_into_groups s alert) labels 0
-unfolding insert_into_groups
 inserted_free s alert labels less free = λ route le.
-    placed_free alert.0 alert.1 (chosen_routes s.config alert.0) s (on_route route labels)
-    (λ same. let level : Equal ≡ Less = sym (tied_itself label_set_cmp_total alert.0) ∙ ap (label_set_cmp alert.0) (sym same) ∙ less in absurd (cc)) (free route le)
+    inserted_others s alert.0 alert.1 (on_route route labels)
+    (λ same. let level : Equal ≡ Less = sym (tied_itself label_set_cmp_total alert.0) ∙ ap (label_set_cmp alert.0) (sym same) ∙ less in absurd (cc)) ∙ free route le
 
 -- no member has the labels of any of these alerts
 AreFree : State → List (LabelSet × Alert) → Type 0
 AreFree s [] = Unit {0}
 AreFree s (alert ∷ alerts) = IsFree s alert.0 0 × AreFree s alerts
 
-both_parts : (a b : Bool) → T (a && b) → T a × T b
-both_parts true b p = (tt, p)
-both_parts false b p = absurd p
-
-is_less : (r : Ordering) → T (is_lt r) → r ≡ Less
-is_less Less p = refl
-is_less Equal p = absurd p
-is_less Greater p = absurd p
-
 rest_free : (s : State) (alert : LabelSet × Alert) (alerts : List (LabelSet × Alert)) → T (below_all label_set_cmp alert.0 alerts) → AreFree s alerts → AreFree (insert_into_groups s alert) alerts
 unfolding AreFree
 rest_free s alert [] below free = tt
 rest_free s alert (other ∷ alerts) below free =
-    let parts = both_parts (is_lt (label_set_cmp alert.0 other.0)) (below_all label_set_cmp alert.0 alerts) below in
-    (inserted_free s alert other.0 (is_less (label_set_cmp alert.0 other.0) parts.0) free.0, rest_free s alert alerts parts.1 free.1)
+    (inserted_free s alert other.0 (less _ (first _ _ below)) free.0, rest_free s alert alerts (second _ _ below) free.1)
 
 placed_all : (config : Config) (alerts : List (LabelSet × Alert)) (s : State) → s.config ≡ config → T (is_sorted label_set_cmp alerts) → AreFree s alerts
     → len (fold insert_into_groups s alerts).placements ≡ len s.placements + copies config alerts
 unfolding AreFree
 placed_all config [] s same sorted free = omega arith
 placed_all config (alert ∷ alerts) s same sorted free =
-    let parts = both_parts (below_all label_set_cmp alert.0 alerts) (is_sorted label_set_cmp alerts) sorted in
-    placed_all config alerts (insert_into_groups s alert) (insert_into_groups-config s alert ∙ same) parts.1 (rest_free s alert alerts parts.0 free.1)
+    placed_all config alerts (insert_into_groups s alert) (insert_into_groups-config s alert ∙ same) (second _ _ sorted) (rest_free s alert alerts (first _ _ sorted) free.1)
     ∙ ap (λ k. k + copies config alerts) (inserted_len s alert free.0 ∙ ap (λ c. len s.placements + length (chosen_routes c alert.0)) same)
     ∙ omega (arith, sum_by-cons (λ (a : LabelSet × Alert). length (chosen_routes config a.0)) alert alerts)
 

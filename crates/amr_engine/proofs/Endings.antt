@@ -132,11 +132,7 @@ past_refused s event no_label h = is_refused s event 20 (past s event no_label h
 -- no alert is skipped at a label
 pub none_skipped : (s : State) (act : Act) → is_label act ≡ true → [] ≡ skipped_of s act
 none_skipped s (Act.Label text) h = refl
-none_skipped s (Act.Post posted) h = absurd (cc)
-none_skipped s (Act.Silence posted) h = absurd (cc)
-none_skipped s (Act.Expire id) h = absurd (cc)
-none_skipped s (Act.Reload config) h = absurd (cc)
-none_skipped s Act.Tick h = absurd (cc)
+none_skipped s act h = absurd (cc)
 
 -- a label
 pub label_accepted : (s : State) (event : Event) (skipped : List ℕ) → is_label event.act ≡ true → skipped ≡ [] → ComesTo s event s (acceptance 0 (drop (length s.notes) s.notes) skipped)

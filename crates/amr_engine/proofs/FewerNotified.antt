@@ -2,6 +2,7 @@
 use Rattle.std.specs.Prelude.{◌≡◌, Bool, true, false, not, ◌&&◌, ◌||◌, List, [], ◌∷◌, Option, Some, None, map, cond, nat_lt, ◌+◌}
 use Rattle.std.specs.List.{list_all, filter}
 use Rattle.std.proofs.Common.{refl, sym, ap, ◌∙◌}
+use Rattle.std.proofs.lemmas.Bool.{and_parts, not-true}
 use Rattle.amr_labels.specs.Map.{get}
 use Rattle.amr_labels.specs.Set.{is_subset, is_empty, contains}
 use Rattle.amr_labels.specs.Labels.{LabelSet}
@@ -17,20 +18,12 @@ use Rattle.amr_engine.specs.State.State.{State}
 use Rattle.amr_engine.specs.Flush.{Members, labels_of, log_key_of}
 use Rattle.amr_engine.specs.Quiet.{no_repeat_before, is_notified, are_notified}
 
-pub both : (a b : Bool) → (a && b) ≡ true → (a ≡ true) × (b ≡ true)
-both true b e = (refl, e)
-both false b e = absurd (cc)
-
-pub is_no : (b : Bool) → not b ≡ true → b ≡ false
-is_no true e = absurd (cc)
-is_no false e = refl
-
 -- ---- a set of fewer members
 
 all_kept : (f : LabelSet → Bool) (p : LabelSet × Alert → Bool) (ms : Members) → list_all f (map (λ member. member.0) ms) ≡ true → list_all f (map (λ member. member.0) (filter p ms)) ≡ true
 all_kept f p [] all = refl
 all_kept f p (m ∷ ms) all =
-    let parts = both (f m.0) (list_all f (map (λ member. member.0) ms)) all in
+    let parts = and_parts (f m.0) (list_all f (map (λ member. member.0) ms)) all in
     elim (p m) as (λ b. list_all f (map (λ member. member.0) (cond b (m ∷ filter p ms) (filter p ms))) ≡ true) [
       | true ↦ (λ i. parts.0 i && all_kept f p ms parts.1 i)
       | false ↦ all_kept f p ms parts.1
@@ -68,13 +61,13 @@ module _ (s : State) (group : RouteLabels) (from until : Moment) (firing fewer_f
   one_notified integration notified =
       let entry : Option LogEntry = get s.log (log_key_of s.config group integration) in
       let interval : Span = repeat_interval_of s.config group.route in
-      let parts = both (not (needs_update entry firing (labels_of []) integration.send_resolved from interval)) (no_repeat_before until interval entry) notified in
-      (λ i. not (fewer_fire entry firing fewer_firing (labels_of []) integration.send_resolved from interval some some_fewer then (is_no _ parts.0) i) && parts.1 i)
+      let parts = and_parts (not (needs_update entry firing (labels_of []) integration.send_resolved from interval)) (no_repeat_before until interval entry) notified in
+      (λ i. not (fewer_fire entry firing fewer_firing (labels_of []) integration.send_resolved from interval some some_fewer then (not-true _ parts.0) i) && parts.1 i)
 
   each_notified : (integrations : List Integration) → list_all (is_notified s group from until firing) integrations ≡ true → list_all (is_notified s group from until fewer_firing) integrations ≡ true
   each_notified [] notified = refl
   each_notified (integration ∷ integrations) notified =
-      let parts = both (is_notified s group from until firing integration) (list_all (is_notified s group from until firing) integrations) notified in
+      let parts = and_parts (is_notified s group from until firing integration) (list_all (is_notified s group from until firing) integrations) notified in
       (λ i. one_notified integration parts.0 i && each_notified integrations parts.1 i)
 
 module _ (s : State) (group : RouteLabels) (from until : Moment) where

@@ -6,8 +6,8 @@ use Rattle.std.specs.FinMap.{IsAntisymmetric}
 use Rattle.std.specs.Cmp.{IsTotalOrder}
 use Rattle.std.specs.Ordering.{eq_by_cmp}
 use Rattle.std.proofs.Common.{refl, sym, ap, ◌∙◌}
+use Rattle.std.proofs.lemmas.Map.Views.{tells_apart}
 use Rattle.amr_labels.specs.Map.{Map, get, remove, get-remove, same_map}
-use Rattle.amr_engine.proofs.QuietStays.{equal}
 
 -- what has no number has no value
 pub none_placed : {X N : Type 0} (number : Option N) (value : Option (Bor X)) → number ≡ None → (IsTrue (is_some value) → IsTrue (is_some number)) → option_copied value ≡ None
@@ -20,6 +20,6 @@ unknown_left {R = R} o exact m key unknown =
     sym (same_map o exact (remove m key) m (λ other.
     get-remove o m key other
     ∙ elim (eq_by_cmp R other key) as (λ b. eq_by_cmp R other key ≡ b → cond b None (get m other) ≡ get m other) [
-      | true ↦ λ e. sym (ap (get m) (exact other key (equal (R other key) e)) ∙ unknown)
+      | true ↦ λ e. sym (ap (get m) (tells_apart exact other key e) ∙ unknown)
       | false ↦ λ e. refl
     ] refl))

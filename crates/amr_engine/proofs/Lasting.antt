@@ -1,22 +1,17 @@
 -- More moves are due than the limit if one group alone is flushed more often.
-use Rattle.std.specs.Prelude.{◌≡◌, ℕ, zero, suc, Bool, true, false, List, [], ◌∷◌, ◌++◌, Option, Some, None, length, ◌≤◌, ◌<◌, ◌+◌, ◌-◌, ◌*◌, ◌==◌, nat_le, ◌&&◌, if◌then◌else◌, cond, map, option_map, ◌⊎◌}
+use Rattle.std.specs.Prelude.{◌≡◌, ℕ, zero, suc, true, false, List, [], ◌∷◌, ◌++◌, Option, Some, None, length, ◌≤◌, ◌<◌, ◌+◌, ◌-◌, ◌*◌, ◌==◌, nat_le, if◌then◌else◌, cond, map, option_map, ◌⊎◌}
 use Rattle.std.specs.List.{fold, filter_map, cons_option}
 use Rattle.std.specs.Option.{option_map_or}
-use Rattle.std.specs.declared.cmp.Ordering.{Ordering}
-use Rattle.std.specs.declared.cmp.Ordering.TheVariants.{Less, Equal, Greater}
-use Rattle.std.specs.Ordering.{eq_by_cmp, is_eq, is_lt}
-use Rattle.std.specs.Cmp.{IsTotalOrder}
-use Rattle.std.specs.FinMap.{IsAntisymmetric}
-use Rattle.std.specs.FinMap.Entries.{find, below_all, is_sorted}
-use Rattle.std.proofs.Common.{T, refl, sym, ap, ◌∙◌, subst, inl, inr, arith}
+use Rattle.std.specs.Ordering.{eq_by_cmp, is_eq}
+use Rattle.std.proofs.Common.{refl, sym, ap, ◌∙◌, subst, inl, inr, arith}
 use Rattle.std.proofs.lemmas.Bool.{leb-true}
 use Rattle.std.proofs.lemmas.Cmp.{tied_itself}
-use Rattle.amr_labels.specs.Map.{Map, get, insert, entries, get-entries, entries-sorted, get-insert, get-remove}
+use Rattle.std.proofs.lemmas.Map.Views.{tells_apart}
+use Rattle.amr_labels.specs.Map.{Map, get, insert, entries, get-insert, get-remove}
 use Rattle.amr_labels.specs.Labels.{LabelSet}
 use Rattle.amr_time.specs.Time.{Moment, second, next_multiple_of}
-use Rattle.amr_config.specs.declared.stated.receiver.Integration.{Integration}
 use Rattle.amr_config.specs.Stated.Config.{Config}
-use Rattle.amr_config.specs.Routing.{integrations_of, group_interval_of}
+use Rattle.amr_config.specs.Routing.{group_interval_of}
 use Rattle.amr_rules.specs.declared.alert.Alert.{Alert}
 use Rattle.amr_engine.specs.declared.state.notification.GroupTimer.{GroupTimer}
 use Rattle.amr_config.specs.declared.route_labels.RouteLabels.{RouteLabels}
@@ -24,7 +19,7 @@ use Rattle.amr_engine.specs.declared.state.due.Kind.TheVariants.{GroupRemoval}
 use Rattle.amr_config.specs.RouteLabels.{route_labels_cmp, route_labels_cmp_total, route_labels_cmp-IsAntisymmetric}
 use Rattle.amr_engine.specs.State.State.{State, members, members_among}
 use Rattle.amr_engine.specs.State.Dues.{Due, alert_removal_of, group_removal_of, flush_of, least_due, due_by, dues, next_due}
-use Rattle.amr_engine.specs.Flush.{Members, firing_of, resolved_of, let_through, log_key_of, record_notification, notify_if_due, notify_receiver, set_timer, drop_member, mark_if_empty, drop_resolved, run_pipeline, flush}
+use Rattle.amr_engine.specs.Flush.{Members, let_through, notify_receiver, set_timer, drop_member, mark_if_empty, drop_resolved, run_pipeline, flush}
 use Rattle.amr_engine.specs.Quiet.{all_fire_until, with_timer_reset}
 use Rattle.amr_engine.specs.Runs.{after_step}
 use Rattle.amr_engine.specs.Moves.{move, advance}
@@ -33,65 +28,18 @@ use Rattle.amr_engine.specs.Lasting.{Lasts, IsFlushedBeyond}
 use Rattle.amr_engine.proofs.MovesLaws.{least_due-IsLeast, Advances-ends}
 use Rattle.amr_engine.proofs.MovesNoted.{next_is_first}
 use Rattle.amr_engine.proofs.QuietLaws.{firing_all, resolved_none}
-use Rattle.amr_engine.proofs.QuietStays.{apart, equal, flush_leaves}
+use Rattle.amr_engine.proofs.QuietStays.{apart, flush_leaves}
+use Rattle.amr_engine.proofs.PlacedLists.{IsAmong, among_entries, get-among}
 use Rattle.amr_engine.proofs.TickLaws.{Judged, move_keeps}
+use Rattle.amr_engine.proofs.MovesKeep.{notify_receiver_holds, flush_holds}
 
 -- ---- the entries of a map
-
-abbrev pub In : {A : Type 0} → A → List A → Type 0
-In x [] = ⊥
-In x (y ∷ ys) = (x ≡ y) ⊎ In x ys
-
-part_one : (a b : Bool) → T (a && b) → T a
-part_one true b h = tt
-part_one false b h = h
-
-part_two : (a b : Bool) → T (a && b) → T b
-part_two true b h = h
-part_two false b h = absurd h
-
-not_tied : (o p : Ordering) → T (is_lt o) → (p ≡ Equal → o ≡ Equal) → is_eq p ≡ false
-not_tied o Less h same = refl
-not_tied Less Equal h same = absurd (cc (same refl))
-not_tied Equal Equal h same = absurd h
-not_tied Greater Equal h same = absurd h
-not_tied o Greater h same = refl
-
-module _ {K X : Type 0} (R : K → K → Ordering) (total : IsTotalOrder R) (exact : IsAntisymmetric R) where
-  pub found_in : (es : List (K × X)) (k : K) (v : X) → find R k es ≡ Some v → In (k, v) es
-  found_in [] k v e = absurd (cc)
-  found_in (first ∷ es) k v e =
-      elim (eq_by_cmp R k first.0) as (λ b. eq_by_cmp R k first.0 ≡ b → cond b (Some first.1) (find R k es) ≡ Some v → In (k, v) (first ∷ es)) [
-        | true ↦ λ is e.
-            let key : k ≡ first.0 = exact k first.0 (equal (R k first.0) is) in
-            let value : first.1 ≡ v = cc in
-            inl (λ i. (key i, sym value i))
-        | false ↦ λ is e. inr (found_in es k v e)
-      ] refl e
-
-  is_below : (k : K) (v : X) (x : K) (es : List (K × X)) → T (below_all R x es) → In (k, v) es → T (is_lt (R x k))
-  is_below k v x [] h among = absurd among
-  is_below k v x (e ∷ es) h (inl is) = subst (λ (y : K × X). T (is_lt (R x y.0))) (sym is) (part_one (is_lt (R x e.0)) (below_all R x es) h)
-  is_below k v x (e ∷ es) h (inr among) = is_below k v x es (part_two (is_lt (R x e.0)) (below_all R x es) h) among
-
-  pub in_found : (es : List (K × X)) (k : K) (v : X) → T (is_sorted R es) → In (k, v) es → find R k es ≡ Some v
-  in_found [] k v sorted among = absurd among
-  in_found (e ∷ es) k v sorted (inl is) =
-      ap (λ (y : K × X). cond (eq_by_cmp R y.0 e.0) (Some e.1) (find R y.0 es)) is
-      ∙ ap (λ o. cond (is_eq o) (Some e.1) (find R e.0 es)) (tied_itself total e.0)
-      ∙ ap (λ (y : K × X). Some y.1) (sym is)
-  in_found (e ∷ es) k v sorted (inr among) =
-      let below = is_below k v e.0 es (part_one (below_all R e.0 es) (is_sorted R es) sorted) among in
-      let other : eq_by_cmp R k e.0 ≡ false =
-      not_tied (R e.0 k) (R k e.0) below (λ tie. ap (λ (x : K). R e.0 x) (exact k e.0 tie) ∙ tied_itself total e.0) in
-      ap (λ b. cond b (Some e.1) (find R k es)) other ∙ in_found es k v (part_two (below_all R e.0 es) (is_sorted R es) sorted) among
 
 abbrev Timers : Type 0
 Timers = Map route_labels_cmp GroupTimer
 
-pub timer_among : (timers : Timers) (group : RouteLabels) (timer : GroupTimer) → get timers group ≡ Some timer → In (group, timer) (entries timers)
-timer_among timers group timer e =
-    found_in route_labels_cmp route_labels_cmp_total route_labels_cmp-IsAntisymmetric (entries timers) group timer (sym (get-entries timers group) ∙ e)
+pub timer_among : (timers : Timers) (group : RouteLabels) (timer : GroupTimer) → get timers group ≡ Some timer → IsAmong (group, timer) (entries timers)
+timer_among timers group timer e = among_entries route_labels_cmp_total route_labels_cmp-IsAntisymmetric timers group timer e
 
 -- the dues of alerts, of empty groups and of all groups
 abbrev pub alert_dues : State → List Due
@@ -107,10 +55,8 @@ pub dues_are : (s : State) → dues s ≡ (alert_dues s ++ empty_dues s) ++ flus
 unfolding dues
 dues_are s = refl
 
-pub timer_got : (timers : Timers) (group : RouteLabels) (timer : GroupTimer) → In (group, timer) (entries timers) → get timers group ≡ Some timer
-timer_got timers group timer among =
-    get-entries timers group
-    ∙ in_found route_labels_cmp route_labels_cmp_total route_labels_cmp-IsAntisymmetric (entries timers) group timer (entries-sorted timers) among
+pub timer_got : (timers : Timers) (group : RouteLabels) (timer : GroupTimer) → IsAmong (group, timer) (entries timers) → get timers group ≡ Some timer
+timer_got timers group timer among = get-among route_labels_cmp_total route_labels_cmp-IsAntisymmetric timers group timer among
 
 -- ---- where a due comes from
 
@@ -126,20 +72,20 @@ in_either d (x ∷ xs) ys (inr h) = elim (in_either d xs ys h) [
   | inr h ↦ inr h
 ]
 
-pub in_map : {A : Type 0} (f : A → Due) (e : A) (es : List A) → In e es → IsIn (f e) (map f es)
+pub in_map : {A : Type 0} (f : A → Due) (e : A) (es : List A) → IsAmong e es → IsIn (f e) (map f es)
 in_map f e [] h = absurd h
 in_map f e (x ∷ es) (inl is) = inl (ap f is)
 in_map f e (x ∷ es) (inr h) = inr (in_map f e es h)
 
-pub from_map : {A : Type 0} (f : A → Due) (d : Due) (es : List A) → IsIn d (map f es) → (e : A) × In e es × (d ≡ f e)
+pub from_map : {A : Type 0} (f : A → Due) (d : Due) (es : List A) → IsIn d (map f es) → (e : A) × IsAmong e es × (d ≡ f e)
 from_map f d [] h = absurd h
 from_map f d (x ∷ es) (inl is) = (x, inl refl, is)
 from_map f d (x ∷ es) (inr h) = let r = from_map f d es h in (r.0, inr r.1, r.2)
 
-pub from_filter_map : {A : Type 0} (f : A → Option Due) (d : Due) (es : List A) → IsIn d (filter_map f es) → (e : A) × In e es × (f e ≡ Some d)
+pub from_filter_map : {A : Type 0} (f : A → Option Due) (d : Due) (es : List A) → IsIn d (filter_map f es) → (e : A) × IsAmong e es × (f e ≡ Some d)
 from_filter_map f d [] h = absurd h
 from_filter_map {A} f d (x ∷ es) h =
-    elim (f x) as (λ o. f x ≡ o → IsIn d (cons_option o (filter_map f es)) → (e : A) × In e (x ∷ es) × (f e ≡ Some d)) [
+    elim (f x) as (λ o. f x ≡ o → IsIn d (cons_option o (filter_map f es)) → (e : A) × IsAmong e (x ∷ es) × (f e ≡ Some d)) [
       | None ↦ λ is h. let r = from_filter_map f d es h in (r.0, inr r.1, r.2)
       | Some y ↦ λ is. elim [
         | inl same ↦ (x, inl refl, is ∙ ap (λ (z : Due). Some z) (sym same))
@@ -173,22 +119,6 @@ Parts = Config × (Map route_labels_cmp Alert × Timers)
 abbrev parts : State → Parts
 parts s = (s.config, (s.placements, s.timers))
 
-chosen_parts : (b : Bool) (x y : State) → parts x ≡ parts y → parts (if b then x else y) ≡ parts y
-chosen_parts true x y e = e
-chosen_parts false x y e = refl
-
-notify_parts : (at : Moment) (group : RouteLabels) (ms : Members) (s : State) (i : Integration) → parts (notify_if_due at group ms s i) ≡ parts s
-unfolding notify_if_due
-notify_parts at group ms s i = chosen_parts _ (record_notification at group (log_key_of s.config group i) i.send_resolved ms s) s refl
-
-fold_parts : (at : Moment) (group : RouteLabels) (ms : Members) (is : List Integration) (s : State) → parts (fold (notify_if_due at group ms) s is) ≡ parts s
-fold_parts at group ms [] s = refl
-fold_parts at group ms (i ∷ is) s = fold_parts at group ms is (notify_if_due at group ms s i) ∙ notify_parts at group ms s i
-
-notify_receiver_parts : (at : Moment) (group : RouteLabels) (ms : Members) (s : State) → parts (notify_receiver at group ms s) ≡ parts s
-notify_receiver_parts at group [] s = refl
-notify_receiver_parts at group (m ∷ ms) s = fold_parts at group (m ∷ ms) (integrations_of s.config group.route) s
-
 -- ---- a group whose members all fire until after the moment
 
 module _ (at : Moment) (group : RouteLabels) where
@@ -205,26 +135,8 @@ module _ (at : Moment) (group : RouteLabels) where
           | Some timer ↦ get-insert route_labels_cmp_total s.timers other (change timer) group ∙ ap (λ b. cond b (Some (change timer)) (get s.timers group)) (apart route_labels_cmp-IsAntisymmetric group other differ)
         ]
 
-    drop_other : (ms : Members) (s : State) → get (fold (drop_member other) s ms).timers group ≡ get s.timers group
-    drop_other [] s = refl
-    drop_other (m ∷ ms) s = drop_other ms (drop_member other s m)
-
-    mark_other : (m : Moment) (ms : Members) (s : State) → get (mark_if_empty m other ms s).timers group ≡ get s.timers group
-    mark_other m [] s = set_other (λ timer. record timer { empty_since = Some m }) s
-    mark_other m (x ∷ ms) s = refl
-
-    pipeline_other : (m : Moment) (ms : Members) (s : State) → get (run_pipeline m other ms s).timers group ≡ get s.timers group
-    unfolding drop_resolved
-    pipeline_other m [] s = refl
-    pipeline_other m (x ∷ ms) s =
-        let through : Members = let_through s m other.route (x ∷ ms) in
-        mark_other m (firing_of m (x ∷ ms)) (fold (drop_member other) (notify_receiver m other through s) (resolved_of m (x ∷ ms)))
-        ∙ drop_other (resolved_of m (x ∷ ms)) (notify_receiver m other through s)
-        ∙ ap (λ (p : Parts). get p.1.1 group) (notify_receiver_parts m other through s)
-
     flush_other : (m : Moment) (s : State) → get (flush m other s).timers group ≡ get s.timers group
-    unfolding flush
-    flush_other m s = pipeline_other m (members s other) (with_timer_reset m other s) ∙ set_other _ s
+    flush_other m s = flush_holds (λ x. get x.timers group ≡ get s.timers group) other (λ change x e. set_other change x ∙ e) (λ _ _ e. e) (λ _ _ _ _ e. e) m s refl
 
     lasts_by_other : (m : Moment) (s : State) (timer : GroupTimer) → Lasts s at group timer → Lasts (flush m other s) at group timer
     lasts_by_other m s timer lasts =
@@ -252,8 +164,9 @@ module _ (at : Moment) (group : RouteLabels) where
   own_parts : (m : Moment) (s : State) (timer : GroupTimer) → m ≤ at → Lasts s at group timer → parts (flush m group s) ≡ parts (with_timer_reset m group s)
   unfolding flush
   own_parts m s timer soon lasts =
-      ap parts (pipeline_own m (members s group) (with_timer_reset m group s) soon lasts.some lasts.fire)
-      ∙ notify_receiver_parts m group (let_through (with_timer_reset m group s) m group.route (members s group)) (with_timer_reset m group s)
+      let reset : State = with_timer_reset m group s in
+      ap parts (pipeline_own m (members s group) reset soon lasts.some lasts.fire)
+      ∙ notify_receiver_holds (λ x. parts x ≡ parts reset) m group (let_through reset m group.route (members s group)) (λ _ _ e. e) reset refl
 
   reset_timed : (m : Moment) (s : State) (timer : GroupTimer) → get s.timers group ≡ Some timer → get (with_timer_reset m group s).timers group ≡ Some (reset m s timer)
   reset_timed m s timer timed =
@@ -310,7 +223,7 @@ module _ (at : Moment) (group : RouteLabels) where
   by_flush s timer other its timed soon lasts =
       elim (eq_by_cmp route_labels_cmp group other) as (λ b. eq_by_cmp route_labels_cmp group other ≡ b → Next s timer (flush_of (other, its))) [
         | true ↦ λ is.
-            let same : group ≡ other = route_labels_cmp-IsAntisymmetric group other (equal _ is) in
+            let same : group ≡ other = tells_apart route_labels_cmp-IsAntisymmetric group other is in
             let mine : timer ≡ its =
             ap (λ (o : Option GroupTimer). option_map_or (λ t. t) o timer) (sym lasts.timed ∙ ap (λ (g : RouteLabels). get s.timers g) same ∙ timed) in
             subst (λ (x : RouteLabels × GroupTimer). Next s timer (flush_of x)) (λ i. (same i, mine i)) (record {

@@ -1,5 +1,6 @@
 pub mod RunsLaws
 pub mod MovesLaws
+pub mod MovesKeep
 pub mod TickLaws
 pub mod RefusalLaws
 pub mod Cascade

@@ -1,39 +1,37 @@
 -- The items of a list, and of the set that is made of it.
-use Rattle.std.specs.Prelude.{◌≡◌, ◌<◌, ◌⊎◌, Bool, true, false, List, [], ◌∷◌, Some, None, map, cond}
+use Rattle.std.specs.Prelude.{◌≡◌, ◌<◌, ◌⊎◌, Bool, true, false, List, [], ◌∷◌, Some, None, map, cond, length, ◌==◌}
 use Rattle.std.specs.List.{Contains, filter, flat_map, list_all, list_any}
 use Rattle.std.specs.Option.{is_some}
 use Rattle.std.specs.Ordering.{eq_by_cmp}
-use Rattle.std.proofs.Common.{refl, sym, ap, ◌∙◌, subst, inl, inr, arith}
+use Rattle.std.proofs.Common.{refl, sym, ap, ◌∙◌, subst, inl, inr, arith, zero, suc}
 use Rattle.std.proofs.lemmas.Cmp.{eq_by_cmp_equiv}
-use Rattle.std.proofs.lemmas.List.Elements.{Contains-append_left, Contains-append_right, Contains-append_cases, Contains-push, Contains-push_cases}
-use Rattle.std.proofs.lemmas.Map.Views.{list_any-from_Contains, Contains-from_any}
+use Rattle.std.proofs.lemmas.List.Elements.{Contains-append_cases}
+use Rattle.std.proofs.lemmas.Map.Views.{list_any-from_Contains, Contains-from_any, tells_apart}
+use Rattle.std.proofs.lemmas.Bool.{and_parts}
+use Rattle.std.proofs.lemmas.Bool.Decides.{nat_tests}
 use Rattle.amr_labels.specs.Set.{contains, from_list, is_subset}
 use Rattle.amr_labels.specs.Labels.{LabelSet, label_set_cmp, label_set_cmp_total, label_set_cmp-IsAntisymmetric}
 use Rattle.amr_rules.specs.Dedup.{LabelSets}
 use Rattle.amr_rules.proofs.Sets.{get-from_list}
 use Rattle.amr_rules.proofs.Subsets.{all_in}
-use Rattle.amr_engine.proofs.QuietStays.{equal}
-use Rattle.amr_engine.proofs.FewerNotified.{both}
 
 module _ {X : Type 0} where
   pub none_listed : (x : X) → Contains [] x → ⊥
   none_listed x h = let before : h.0 < 0 = h.1 in omega (arith, before)
 
   pub first_or_rest : (x y : X) (xs : List X) → Contains (x ∷ xs) y → (x ≡ y) ⊎ Contains xs y
-  first_or_rest x y xs h =
-      elim (Contains-append_cases (x ∷ []) xs y h) [
-        | inl one ↦ elim (Contains-push_cases [] x y one) [
-          | inl none ↦ absurd (none_listed y none)
-          | inr same ↦ inl same
-        ]
-        | inr rest ↦ inr rest
-      ]
+  first_or_rest x y xs (zero, lt, e) = inl e
+  first_or_rest x y xs (suc k, lt, e) = inr (k, omega arith, e)
 
   pub listed_first : (x : X) (xs : List X) → Contains (x ∷ xs) x
-  listed_first x xs = Contains-append_left (x ∷ []) xs x (Contains-push [] x)
+  listed_first x xs = (0, omega arith, refl)
 
   pub listed_later : (x y : X) (xs : List X) → Contains xs y → Contains (x ∷ xs) y
-  listed_later x y xs h = Contains-append_right (x ∷ []) xs y h
+  listed_later x y xs h = (suc h.0, omega (arith, h.1), h.2)
+
+  pub none_left : (xs : List X) → (length xs == 0) ≡ true → xs ≡ []
+  none_left [] e = refl
+  none_left (x ∷ xs) e = absurd (grind (arith, nat_tests))
 
   -- what passes the test stays
   pub listed_filter : (p : X → Bool) (xs : List X) (x : X) → p x ≡ true → Contains xs x → Contains (filter p xs) x
@@ -76,9 +74,6 @@ module _ {X Y : Type 0} where
 
 -- ---- the set of a list
 
-same_labels : (x y : LabelSet) → eq_by_cmp label_set_cmp x y ≡ true → x ≡ y
-same_labels x y e = label_set_cmp-IsAntisymmetric x y (equal (label_set_cmp x y) e)
-
 seen : (b : Bool) → is_some (cond b (Some (tt {0})) None) ≡ b
 seen true = refl
 seen false = refl
@@ -88,7 +83,7 @@ set_contains ks q = ap is_some (get-from_list label_set_cmp_total ks q) ∙ seen
 
 -- what is in the set is in the list
 pub listed_in_set : (ks : List LabelSet) (q : LabelSet) → contains (from_list {R = label_set_cmp} ks) q ≡ true → Contains ks q
-listed_in_set ks q h = Contains-from_any same_labels q ks (sym (set_contains ks q) ∙ h)
+listed_in_set ks q h = Contains-from_any (tells_apart label_set_cmp-IsAntisymmetric) q ks (sym (set_contains ks q) ∙ h)
 
 -- what is in the list is in the set
 pub in_set : (ks : List LabelSet) (q : LabelSet) → Contains ks q → contains (from_list {R = label_set_cmp} ks) q ≡ true
@@ -97,7 +92,7 @@ in_set ks q h = set_contains ks q ∙ list_any-from_Contains (eq_by_cmp_equiv la
 passes_each : (f : LabelSet → Bool) (ks : List LabelSet) (q : LabelSet) → list_all f ks ≡ true → Contains ks q → f q ≡ true
 passes_each f [] q all h = absurd (none_listed q h)
 passes_each f (k ∷ ks) q all h =
-    let parts = both (f k) (list_all f ks) all in
+    let parts = and_parts (f k) (list_all f ks) all in
     elim (first_or_rest k q ks h) [
       | inl same ↦ ap f (sym same) ∙ parts.0
       | inr rest ↦ passes_each f ks q parts.1 rest

@@ -1,14 +1,13 @@
 -- What leaves a group notified: all but flushes of the group, posts of its alerts, and a reload.
-use Rattle.std.specs.Prelude.{◌≡◌, ◌<◌, ℕ, Bool, true, false, not, ◌&&◌, List, [], ◌∷◌, Some, None, cond, map, length, ◌⊎◌}
+use Rattle.std.specs.Prelude.{◌≡◌, ◌<◌, ℕ, Bool, false, not, ◌&&◌, List, [], ◌∷◌, Some, cond, map, length, ◌⊎◌}
 use Rattle.std.specs.List.{list_all, filter, fold}
-use Rattle.std.specs.Ordering.{eq_by_cmp, is_eq}
+use Rattle.std.specs.Ordering.{eq_by_cmp}
 use Rattle.std.specs.FinMap.Entries.{put, by_order}
 use Rattle.std.specs.declared.cmp.Ordering.{Ordering}
 use Rattle.std.specs.declared.cmp.Ordering.TheVariants.{Less, Equal, Greater}
 use Rattle.std.specs.FinMap.{IsAntisymmetric}
-use Rattle.std.proofs.Common.{refl, sym, ap, ◌∙◌, subst, inl, inr}
-use Rattle.std.proofs.lemmas.Cmp.{tied_itself}
-use Rattle.amr_labels.specs.Map.{Map, get, insert, remove, entries, get-insert, get-remove, entries-insert}
+use Rattle.std.proofs.Common.{refl, sym, ap, ◌∙◌, subst}
+use Rattle.amr_labels.specs.Map.{Map, get, insert, remove, entries, entries-insert}
 use Rattle.amr_labels.specs.Labels.{LabelSet}
 use Rattle.amr_time.specs.Time.{Moment}
 use Rattle.amr_config.specs.declared.stated.receiver.Integration.{Integration}
@@ -32,7 +31,8 @@ use Rattle.amr_engine.specs.Events as events
 use Rattle.amr_engine.specs.Flush.{Members, labels_of, log_key_of}
 use Rattle.amr_engine.specs.Quiet.{no_repeat_before, is_notified, are_notified, IsAllNotified, LeavesOthers}
 use Rattle.amr_engine.specs.CachedQuiet.{Times, IsNotifiedIn, without_joined}
-use Rattle.amr_engine.proofs.QuietStays.{equal, apart}
+use Rattle.amr_engine.proofs.PlacedLists.{get-after_remove, get-insert_cases}
+use Rattle.amr_engine.proofs.QuietStays.{apart}
 
 -- ---- one group
 
@@ -63,29 +63,14 @@ module _ (s t : State) (group : RouteLabels) (config : t.config ≡ s.config)
 
 -- ---- a group that is removed from what is cached
 
-same_group : (a b : RouteLabels) → eq_by_cmp route_labels_cmp a b ≡ true → a ≡ b
-same_group a b e = route_labels_cmp-IsAntisymmetric a b (equal (route_labels_cmp a b) e)
-
-other_group : (a b : RouteLabels) → eq_by_cmp route_labels_cmp a b ≡ false → a ≡ b → ⊥
-other_group a b other e = absurd (cc (other, ap is_eq (tied_itself route_labels_cmp_total b), ap (λ (g : RouteLabels). eq_by_cmp route_labels_cmp g b) e))
-
 -- what is still cached is of another group, and was cached before
 pub still_cached : (times : Times) (removed group : RouteLabels) (time : QuietTime) → get (remove times removed) group ≡ Some time → (group ≡ removed → ⊥) × (get times group ≡ Some time)
-still_cached times removed group time cached =
-    elim (eq_by_cmp route_labels_cmp group removed) as (λ b. eq_by_cmp route_labels_cmp group removed ≡ b → cond b None (get times group) ≡ Some time → (group ≡ removed → ⊥) × (get times group ≡ Some time)) [
-      | true ↦ λ is left. absurd (cc left)
-      | false ↦ λ is left. (other_group group removed is, left)
-    ] refl (sym (get-remove route_labels_cmp_total times removed group) ∙ cached)
+still_cached times removed group time cached = get-after_remove route_labels_cmp_total route_labels_cmp-IsAntisymmetric times removed group time cached
 
 -- what is cached after one more was put is that, or was cached before
 pub now_cached : (times : Times) (added : RouteLabels) (one : QuietTime) (group : RouteLabels) (time : QuietTime) → get (insert times added one) group ≡ Some time
     → ((group ≡ added) × (one ≡ time)) ⊎ (get times group ≡ Some time)
-now_cached times added one group time cached =
-    elim (eq_by_cmp route_labels_cmp group added) as (λ b. eq_by_cmp route_labels_cmp group added ≡ b → cond b (Some one) (get times group) ≡ Some time
-    → ((group ≡ added) × (one ≡ time)) ⊎ (get times group ≡ Some time)) [
-      | true ↦ λ is found. inl (same_group group added is, cc found)
-      | false ↦ λ is found. inr found
-    ] refl (sym (get-insert route_labels_cmp_total times added one group) ∙ cached)
+now_cached times added one group time cached = get-insert_cases route_labels_cmp_total route_labels_cmp-IsAntisymmetric times added one group time cached
 
 -- ---- a flush
 

@@ -1,30 +1,28 @@
 -- A flush leaves the alerts placed.
-use Rattle.std.specs.Prelude.{◌≡◌, ℕ, Bool, true, false, List, [], ◌∷◌, ◌≤◌, Option, Some, None, map, ◌+◌, if◌then◌else◌}
+use Rattle.std.specs.Prelude.{◌≡◌, ℕ, Bool, true, false, List, [], ◌∷◌, ◌≤◌, Option, Some, None, map, ◌+◌}
 use Rattle.std.specs.List.{Contains, filter, fold}
 use Rattle.std.specs.Option.{option_map_or}
 use Rattle.std.specs.Ordering.{eq_by_cmp, is_eq}
 use Rattle.std.proofs.Common.{refl, sym, ap, ◌∙◌, subst, inl, inr, arith}
 use Rattle.std.proofs.lemmas.Cmp.{tied_itself}
 use Rattle.std.proofs.lemmas.Bool.Decides.{nat_tests}
+use Rattle.std.proofs.lemmas.Map.Views.{tells_apart}
 use Rattle.amr_labels.specs.Map.{Map, get, insert, remove, entries}
 use Rattle.amr_labels.specs.Labels.{LabelSet}
 use Rattle.amr_time.specs.Time.{Moment}
-use Rattle.amr_config.specs.declared.stated.receiver.Integration.{Integration}
 use Rattle.amr_config.specs.Stated.Config.{Config}
-use Rattle.amr_config.specs.Routing.{chosen_routes, integrations_of, group_interval_of, repeat_interval_of}
+use Rattle.amr_config.specs.Routing.{chosen_routes, group_interval_of}
 use Rattle.amr_rules.specs.declared.alert.Alert.{Alert}
 use Rattle.amr_rules.specs.Alerts.{is_resolved_at}
 use Rattle.amr_rules.specs.declared.dedup.LogEntry.{LogEntry}
-use Rattle.amr_rules.specs.Dedup.{needs_update}
 use Rattle.amr_engine.specs.declared.state.notification.GroupTimer.{GroupTimer}
-use Rattle.amr_engine.specs.declared.state.notification.LogKey.{LogKey}
 use Rattle.amr_engine.specs.declared.state.notification.Notification.{Notification}
 use Rattle.amr_config.specs.declared.route_labels.RouteLabels.{RouteLabels}
 use Rattle.amr_config.specs.RouteLabels.{on_route, route_labels_cmp, route_labels_cmp_total, route_labels_cmp-IsAntisymmetric}
 use Rattle.amr_engine.specs.State.State.{State, log_key_cmp, group_key, members_among, members}
-use Rattle.amr_engine.specs.Flush.{Members, firing_of, resolved_of, labels_of, log_key_of, let_through, notify_if_due, notify_receiver, record_notification, set_timer, drop_member, mark_if_empty, drop_resolved, run_pipeline, flush}
+use Rattle.amr_engine.specs.Flush.{Members, firing_of, resolved_of, log_key_of, let_through, notify_receiver, record_notification, set_timer, drop_member, mark_if_empty, drop_resolved, run_pipeline, flush}
 use Rattle.amr_engine.specs.Placed.{IsTimed, IsPlaced}
-use Rattle.amr_engine.proofs.QuietStays.{equal}
+use Rattle.amr_engine.proofs.MovesKeep.{notify_receiver_holds}
 use Rattle.amr_engine.proofs.PlacedLists.{Each, IsAmong, each_kept, kept_among, all_pass, get-inserted, get-insert_apart, get-removed, get-remove_apart, get-before_remove, get-remove_none, get-each, among_entries}
 use Rattle.amr_engine.proofs.PlacedPosts.{key_or_apart, timed_as, placed_as}
 
@@ -82,30 +80,12 @@ record Noted (s t : State) : Type 0 where
   pub notes : List Notification
   pub is : t ≡ record s { log = log; notes = notes }
 
-noted_itself : (s : State) → Noted s s
-noted_itself s = record { log = s.log; notes = s.notes; is = refl }
-
-notify_noted : (at : Moment) (group : RouteLabels) (ms : Members) (s : State) (integration : Integration) → Noted s (notify_if_due at group ms s integration)
-unfolding notify_if_due
-notify_noted at group ms s integration =
-    let key : LogKey = log_key_of s.config group integration in
-    elim (needs_update (get s.log key) (labels_of (firing_of at ms)) (labels_of (resolved_of at ms)) integration.send_resolved at (repeat_interval_of s.config group.route))
-    as (λ b. Noted s (if b then record_notification at group key integration.send_resolved ms s else s)) [
-      | true ↦ record { log = _; notes = _; is = refl }
-      | false ↦ noted_itself s
-    ]
-
-notify_integrations_noted : (at : Moment) (group : RouteLabels) (ms : Members) (s : State) (integrations : List Integration) → Noted s (fold (notify_if_due at group ms) s integrations)
-notify_integrations_noted at group ms s [] = noted_itself s
-notify_integrations_noted at group ms s (integration ∷ integrations) =
-    let first : Noted s (notify_if_due at group ms s integration) = notify_noted at group ms s integration in
-    let rest : Noted (notify_if_due at group ms s integration) (fold (notify_if_due at group ms) (notify_if_due at group ms s integration) integrations) =
-    notify_integrations_noted at group ms (notify_if_due at group ms s integration) integrations in
-    record { log = rest.log; notes = rest.notes; is = rest.is ∙ ap (λ (x : State). record x { log = rest.log; notes = rest.notes }) first.is }
-
 notify_receiver_noted : (at : Moment) (group : RouteLabels) (ms : Members) (s : State) → Noted s (notify_receiver at group ms s)
-notify_receiver_noted at group [] s = noted_itself s
-notify_receiver_noted at group (m ∷ ms) s = notify_integrations_noted at group (m ∷ ms) s (integrations_of s.config group.route)
+notify_receiver_noted at group ms s = notify_receiver_holds (Noted s) at group ms
+    (λ t integration noted.
+    let u : State = record_notification at group (log_key_of t.config group integration) integration.send_resolved ms t in
+    record { log = u.log; notes = u.notes; is = ap (λ (x : State). record x { log = u.log; notes = u.notes }) noted.is })
+    s (record { log = s.log; notes = s.notes; is = refl })
 
 -- ---- the members that leave
 
@@ -118,7 +98,7 @@ module _ (config : Config) (group : RouteLabels) (placements : Map route_labels_
   is_in_group placement = eq_by_cmp route_labels_cmp (group_key config placement.0) group
 
   in_group : (placement : RouteLabels × Alert) → is_in_group placement ≡ true → group_key config placement.0 ≡ group
-  in_group placement e = route_labels_cmp-IsAntisymmetric (group_key config placement.0) group (equal _ e)
+  in_group placement e = tells_apart route_labels_cmp-IsAntisymmetric (group_key config placement.0) group e
 
   had : (placement : RouteLabels × Alert) → is_in_group placement ≡ true → get placements placement.0 ≡ Some placement.1 → IsHad (placement.0.labels, placement.1)
   had placement e is =
@@ -176,17 +156,10 @@ module _ (group : RouteLabels) where
     | inr later ↦ all_dropped xs (drop_member group s x) m later
   ]
 
-  dropped_alerts : (ms : Members) (s : State) → (fold (drop_member group) s ms).alerts ≡ s.alerts
-  dropped_alerts [] s = refl
-  dropped_alerts (m ∷ ms) s = dropped_alerts ms (drop_member group s m)
-
-  dropped_config : (ms : Members) (s : State) → (fold (drop_member group) s ms).config ≡ s.config
-  dropped_config [] s = refl
-  dropped_config (m ∷ ms) s = dropped_config ms (drop_member group s m)
-
-  dropped_timers : (ms : Members) (s : State) → (fold (drop_member group) s ms).timers ≡ s.timers
-  dropped_timers [] s = refl
-  dropped_timers (m ∷ ms) s = dropped_timers ms (drop_member group s m)
+  -- only members do
+  dropped_is : (ms : Members) (s : State) → fold (drop_member group) s ms ≡ record s { placements = (fold (drop_member group) s ms).placements }
+  dropped_is [] s = refl
+  dropped_is (m ∷ ms) s = dropped_is ms (drop_member group s m)
 
 module _ (at now : Moment) (group : RouteLabels) (s : State) (order : now ≤ at) (placed : IsPlaced at s) where
   abbrev ms : Members
@@ -194,6 +167,9 @@ module _ (at now : Moment) (group : RouteLabels) (s : State) (order : now ≤ at
 
   abbrev dropped : State
   dropped = fold (drop_member group) s (resolved_of now ms)
+
+  dropped_same : dropped ≡ record s { placements = dropped.placements }
+  dropped_same = dropped_is group (resolved_of now ms) s
 
   -- an alert that isn't resolved is none of the members that leave
   stays : (labels : LabelSet) (alert : Alert) (route : ℕ) → is_resolved_at at alert ≡ false → get s.placements (on_route route labels) ≡ Some alert
@@ -210,24 +186,24 @@ module _ (at now : Moment) (group : RouteLabels) (s : State) (order : now ≤ at
       → get dropped.placements (on_route route labels) ≡ Some alert
   dropped_copied labels alert is fires route takes =
       let before : get s.placements (on_route route labels) ≡ Some alert =
-      placed.copied labels alert (ap (λ m. get m labels) (sym (dropped_alerts group (resolved_of now ms) s)) ∙ is) fires route
-      (subst (λ (c : Config). Contains (chosen_routes c labels) route) (dropped_config group (resolved_of now ms) s) takes) in
+      placed.copied labels alert (ap (λ m. get m labels) (sym (ap (λ (x : State). x.alerts) dropped_same)) ∙ is) fires route
+      (subst (λ (c : Config). Contains (chosen_routes c labels) route) (ap (λ (x : State). x.config) dropped_same) takes) in
       not_dropped group (resolved_of now ms) s (on_route route labels) alert (stays labels alert route fires before) before
 
   dropped_chosen : (member : RouteLabels) (copy : Alert) → get dropped.placements member ≡ Some copy → Contains (chosen_routes dropped.config member.labels) member.route
   dropped_chosen member copy e =
-      subst (λ (c : Config). Contains (chosen_routes c member.labels) member.route) (sym (dropped_config group (resolved_of now ms) s))
+      subst (λ (c : Config). Contains (chosen_routes c member.labels) member.route) (sym (ap (λ (x : State). x.config) dropped_same))
       (placed.chosen_only member copy (dropped_before group (resolved_of now ms) s member copy e))
 
   dropped_timed : (member : RouteLabels) (copy : Alert) → get dropped.placements member ≡ Some copy → IsTimed dropped (group_key dropped.config member)
   dropped_timed member copy e =
-      subst (λ (c : Config). IsTimed dropped (group_key c member)) (sym (dropped_config group (resolved_of now ms) s))
-      (timed_as s dropped (group_key s.config member) (dropped_timers group (resolved_of now ms) s) (placed.timed member copy (dropped_before group (resolved_of now ms) s member copy e)))
+      subst (λ (c : Config). IsTimed dropped (group_key c member)) (sym (ap (λ (x : State). x.config) dropped_same))
+      (timed_as s dropped (group_key s.config member) (ap (λ (x : State). x.timers) dropped_same) (placed.timed member copy (dropped_before group (resolved_of now ms) s member copy e)))
 
   -- where all members of the group are resolved, none is left
   none_left : firing_of now ms ≡ [] → (member : RouteLabels) (copy : Alert) → get dropped.placements member ≡ Some copy → group_key dropped.config member ≡ group → ⊥
   none_left none member copy e of =
-      let owner : group_key s.config member ≡ group = ap (λ c. group_key c member) (sym (dropped_config group (resolved_of now ms) s)) ∙ of in
+      let owner : group_key s.config member ≡ group = ap (λ c. group_key c member) (sym (ap (λ (x : State). x.config) dropped_same)) ∙ of in
       let route : group.route ≡ member.route = ap (λ (x : RouteLabels). x.route) (sym owner) in
       let among : IsAmong {X = LabelSet × Alert} (member.labels, copy) ms = among_members s.config group s.placements member copy (dropped_before group (resolved_of now ms) s member copy e) owner in
       let over : is_resolved_at now copy ≡ true = all_pass (λ m. is_resolved_at now m.1) (member.labels, copy) ms none among in

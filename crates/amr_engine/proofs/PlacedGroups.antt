@@ -6,34 +6,29 @@ use Rattle.amr_labels.specs.Map.{get, entries}
 use Rattle.amr_labels.specs.Labels.{LabelSet}
 use Rattle.amr_config.specs.Routing.{chosen_routes}
 use Rattle.amr_rules.specs.declared.alert.Alert.{Alert}
-use Rattle.amr_engine.specs.declared.state.notification.GroupTimer.{GroupTimer}
 use Rattle.amr_config.specs.declared.route_labels.RouteLabels.{RouteLabels}
 use Rattle.amr_engine.specs.declared.state.views.Group.{Group}
 use Rattle.amr_config.specs.RouteLabels.{on_route, route_labels_cmp_total, route_labels_cmp-IsAntisymmetric}
 use Rattle.amr_engine.specs.State.State.{State, group_key, members_among, members}
 use Rattle.amr_engine.specs.State.Seen.{group_seen, groups_of}
 use Rattle.amr_engine.specs.Placed.{IsTimed, ArePlaced, IsListed, AreListed}
-use Rattle.amr_engine.proofs.PlacedLists.{Each, IsAmong, contains_cases, contains_none, contains_first, contains_rest, among_entries}
+use Rattle.amr_engine.proofs.Listed.{none_listed, first_or_rest, listed_first, listed_later, from_map}
+use Rattle.amr_engine.proofs.PlacedLists.{Each, IsAmong, among_entries}
 use Rattle.amr_engine.proofs.PlacedFlush.{IsHad, each_had, among_members}
 
 -- an item's image is in the list of images
 contains_image : {X Y : Type 0} (f : X → Y) (x : X) (xs : List X) → IsAmong x xs → Contains (map f xs) (f x)
 contains_image f x [] h = absurd h
-contains_image f x (y ∷ ys) (inl same) = subst (λ z. Contains (f y ∷ map f ys) (f z)) (sym same) (contains_first (f y) (map f ys))
-contains_image f x (y ∷ ys) (inr later) = contains_rest (f y) (map f ys) (f x) (contains_image f x ys later)
+contains_image f x (y ∷ ys) (inl same) = subst (λ z. Contains (f y ∷ map f ys) (f z)) (sym same) (listed_first (f y) (map f ys))
+contains_image f x (y ∷ ys) (inr later) = listed_later (f y) (f x) (map f ys) (contains_image f x ys later)
 
 -- an item of a list of images is the image of an item that has what each item has
 from_image : {X Y : Type 0} (P : X → Type 0) (f : X → Y) (xs : List X) (y : Y) → Each P xs → Contains (map f xs) y → (x : X) × P x × (f x ≡ y)
-from_image P f [] y each has = absurd (contains_none y has)
-from_image P f (x ∷ xs) y each has = elim (contains_cases (f x) (map f xs) y has) [
+from_image P f [] y each has = absurd (none_listed y has)
+from_image P f (x ∷ xs) y each has = elim (first_or_rest (f x) y (map f xs) has) [
   | inl same ↦ (x, each.0, same)
   | inr later ↦ from_image P f xs y each.1 later
 ]
-
--- every entry is one
-each_is : {X : Type 0} (xs : List X) → Each (λ (x : X). Unit {0}) xs
-each_is [] = tt
-each_is (x ∷ xs) = (tt, each_is xs)
 
 module _ (s : State) (placed : ArePlaced s) where
   each_listed : (labels : LabelSet) (alert : Alert) (route : ℕ) → get s.placements (on_route route labels) ≡ Some alert → IsListed s (groups_of s) labels route
@@ -53,7 +48,7 @@ module _ (s : State) (placed : ArePlaced s) where
   only_listed : (group : Group) → Contains (groups_of s) group → (labels : LabelSet) → Contains group.members labels → Contains (chosen_routes s.config labels) group.route
   unfolding members
   only_listed group listed labels has =
-      let known = from_image (λ (x : RouteLabels × GroupTimer). Unit {0}) (group_seen s) (entries s.timers) group (each_is (entries s.timers)) listed in
+      let known = from_map (group_seen s) (entries s.timers) group listed in
       let key : RouteLabels = known.0.0 in
       let member = from_image (IsHad s.config key s.placements) (λ (m : LabelSet × Alert). m.0) (members_among s.config s.placements key) labels (each_had s.config key s.placements)
       (subst (λ (g : Group). Contains g.members labels) (sym known.2) has) in

@@ -1,16 +1,19 @@
 -- Finite maps at a key, at other keys and by their entries, and lists item by item.
-use Rattle.std.specs.Prelude.{◌≡◌, zero, suc, Bool, true, false, not, ◌&&◌, ◌⊎◌, T, List, [], ◌∷◌, Option, Some, None, cond}
+use Rattle.std.specs.Prelude.{◌≡◌, Bool, true, false, not, ◌⊎◌, T, List, [], ◌∷◌, Option, Some, None, cond}
 use Rattle.std.specs.List.{Contains, filter}
 use Rattle.std.specs.declared.cmp.Ordering.{Ordering}
-use Rattle.std.specs.declared.cmp.Ordering.TheVariants.{Less, Equal, Greater}
-use Rattle.std.specs.Ordering.{eq_by_cmp, is_eq, is_lt}
+use Rattle.std.specs.declared.cmp.Ordering.TheVariants.{Less}
+use Rattle.std.specs.Ordering.{eq_by_cmp, is_eq}
 use Rattle.std.specs.Cmp.{IsTotalOrder}
 use Rattle.std.specs.FinMap.{find, is_sorted, IsAntisymmetric}
 use Rattle.std.specs.FinMap.Entries.{below_all}
-use Rattle.std.proofs.Common.{refl, sym, ap, ◌∙◌, inl, inr, arith}
+use Rattle.std.proofs.Common.{refl, sym, ap, ◌∙◌, inl, inr, subst}
 use Rattle.std.proofs.lemmas.Cmp.{tied_itself, eq_by_cmp_equiv}
+use Rattle.std.proofs.lemmas.Map.Views.{tells_apart}
+use Rattle.std.proofs.lemmas.Option.{same_Some}
+use Rattle.amr_labels.proofs.Sorted.{first, second, less}
 use Rattle.amr_labels.specs.Map.{Map, get, insert, remove, entries, get-insert, get-remove, get-entries, entries-sorted}
-use Rattle.amr_engine.proofs.QuietStays.{equal}
+use Rattle.amr_engine.proofs.Listed.{listed_first, listed_later}
 
 -- ---- lists
 
@@ -29,24 +32,15 @@ module _ {X : Type 0} where
   each_weaker P Q f [] h = tt
   each_weaker P Q f (x ∷ xs) h = (f x h.0, each_weaker P Q f xs h.1)
 
-  -- an item of a list is its first item or one of the rest
-  pub contains_cases : (x : X) (xs : List X) (y : X) → Contains (x ∷ xs) y → (x ≡ y) ⊎ Contains xs y
-  contains_cases x xs y (zero, lt, e) = inl e
-  contains_cases x xs y (suc k, lt, e) = inr (k, omega arith, e)
-
-  pub contains_none : (y : X) → Contains [] y → ⊥
-  contains_none y c = omega (arith, c.1)
-
-  pub contains_first : (x : X) (xs : List X) → Contains (x ∷ xs) x
-  contains_first x xs = (0, omega arith, refl)
-
-  pub contains_rest : (x : X) (xs : List X) (y : X) → Contains xs y → Contains (x ∷ xs) y
-  contains_rest x xs y c = (suc c.0, omega (arith, c.1), c.2)
+  pub each_at : (P : X → Type 0) (x : X) (xs : List X) → Each P xs → IsAmong x xs → P x
+  each_at P x [] h among = absurd among
+  each_at P x (y ∷ ys) h (inl is) = subst P (sym is) h.0
+  each_at P x (y ∷ ys) h (inr later) = each_at P x ys h.1 later
 
   -- each item of a list is in it
   pub each_contained : (all xs : List X) → ((y : X) → Contains xs y → Contains all y) → Each (Contains all) xs
   each_contained all [] f = tt
-  each_contained all (x ∷ xs) f = (f x (contains_first x xs), each_contained all xs (λ y c. f y (contains_rest x xs y c)))
+  each_contained all (x ∷ xs) f = (f x (listed_first x xs), each_contained all xs (λ y c. f y (listed_later x y xs c)))
 
   module _ (p : X → Bool) where
     pub each_kept : (P Q : X → Type 0) → ((x : X) → p x ≡ true → P x → Q x) → (xs : List X) → Each P xs → Each Q (filter p xs)
@@ -78,15 +72,6 @@ module _ {X : Type 0} where
 
 -- ---- maps
 
-less : (r : Ordering) → T (is_lt r) → r ≡ Less
-less Less p = refl
-less Equal p = absurd p
-less Greater p = absurd p
-
-both : (a b : Bool) → T (a && b) → T a × T b
-both true b p = (tt, p)
-both false b p = absurd p
-
 module _ {K : Type 0} {R : K → K → Ordering} (o : IsTotalOrder R) (exact : IsAntisymmetric R) where
   alike : (q k : K) → q ≡ k → eq_by_cmp R q k ≡ true
   alike q k same = ap (λ (x : K). eq_by_cmp R x k) same ∙ ap is_eq (tied_itself o k)
@@ -95,7 +80,7 @@ module _ {K : Type 0} {R : K → K → Ordering} (o : IsTotalOrder R) (exact : I
   pub same_or_apart : (q k : K) → (q ≡ k) ⊎ ((q ≡ k → ⊥) × (eq_by_cmp R q k ≡ false))
   same_or_apart q k =
       elim (eq_by_cmp R q k) as (λ b. eq_by_cmp R q k ≡ b → (q ≡ k) ⊎ ((q ≡ k → ⊥) × (b ≡ false))) [
-        | true ↦ λ e. inl (exact q k (equal (R q k) e))
+        | true ↦ λ e. inl (tells_apart exact q k e)
         | false ↦ λ e. inr ((λ same. let no : true ≡ false = sym (alike q k same) ∙ e in absurd (cc)), refl)
       ] refl
 
@@ -112,13 +97,24 @@ module _ {K X : Type 0} {R : K → K → Ordering} (o : IsTotalOrder R) (exact :
   pub get-remove_apart : (m : Map R X) (k q : K) → eq_by_cmp R q k ≡ false → get (remove m k) q ≡ get m q
   get-remove_apart m k q apart = get-remove o m k q ∙ ap (λ b. cond b None (get m q)) apart
 
+  -- what a map has after an insertion was inserted, or it had it before
+  pub get-insert_cases : (m : Map R X) (k : K) (v : X) (q : K) (w : X) → get (insert m k v) q ≡ Some w → ((q ≡ k) × (v ≡ w)) ⊎ (get m q ≡ Some w)
+  get-insert_cases m k v q w e =
+      elim (same_or_apart o exact q k) [
+        | inl same ↦ inl (same, same_Some v w (sym (get-inserted m k v) ∙ ap (get (insert m k v)) (sym same) ∙ e))
+        | inr apart ↦ inr (sym (get-insert_apart m k v q apart.1) ∙ e)
+      ]
+
   -- what a map has after a removal it had before
-  pub get-before_remove : (m : Map R X) (k q : K) (v : X) → get (remove m k) q ≡ Some v → get m q ≡ Some v
-  get-before_remove m k q v e =
+  pub get-after_remove : (m : Map R X) (k q : K) (v : X) → get (remove m k) q ≡ Some v → (q ≡ k → ⊥) × (get m q ≡ Some v)
+  get-after_remove m k q v e =
       elim (same_or_apart o exact q k) [
         | inl same ↦ absurd (let no : None ≡ Some v = sym (get-removed m k) ∙ ap (get (remove m k)) (sym same) ∙ e in cc)
-        | inr apart ↦ sym (get-remove_apart m k q apart.1) ∙ e
+        | inr apart ↦ (apart.0, sym (get-remove_apart m k q apart.1) ∙ e)
       ]
+
+  pub get-before_remove : (m : Map R X) (k q : K) (v : X) → get (remove m k) q ≡ Some v → get m q ≡ Some v
+  get-before_remove m k q v e = (get-after_remove m k q v e).1
 
   pub get-remove_none : (m : Map R X) (k q : K) → get m q ≡ None → get (remove m k) q ≡ None
   get-remove_none m k q e =
@@ -138,19 +134,20 @@ module _ {K X : Type 0} {R : K → K → Ordering} (o : IsTotalOrder R) (exact :
   all_later : (e : K × X) (es fs : List (K × X)) → T (below_all R e.0 fs) → Each (λ (f : K × X). find R f.0 es ≡ Some f.1) fs → Each (λ (f : K × X). find R f.0 (e ∷ es) ≡ Some f.1) fs
   all_later e es [] below found = tt
   all_later e es (f ∷ fs) below found =
-      let parts = both (is_lt (R e.0 f.0)) (below_all R e.0 fs) below in
-      (found_later e f es (less (R e.0 f.0) parts.0) found.0, all_later e es fs parts.1 found.1)
+      (found_later e f es (less (R e.0 f.0) (first _ _ below)) found.0, all_later e es fs (second _ _ below) found.1)
 
   all_found : (es : List (K × X)) → T (is_sorted R es) → Each (λ (e : K × X). find R e.0 es ≡ Some e.1) es
   all_found [] sorted = tt
   all_found (e ∷ es) sorted =
-      let parts = both (below_all R e.0 es) (is_sorted R es) sorted in
-      (found_first e es, all_later e es es parts.0 (all_found es parts.1))
+      (found_first e es, all_later e es es (first _ _ sorted) (all_found es (second _ _ sorted)))
 
   -- a map has each of its entries
   pub get-each : (m : Map R X) → Each (λ (e : K × X). get m e.0 ≡ Some e.1) (entries m)
   get-each m = each_weaker (λ (e : K × X). find R e.0 (entries m) ≡ Some e.1) (λ (e : K × X). get m e.0 ≡ Some e.1) (λ e found. get-entries m e.0 ∙ found)
       (entries m) (all_found (entries m) (entries-sorted m))
+
+  pub get-among : (m : Map R X) (q : K) (v : X) → IsAmong (q, v) (entries m) → get m q ≡ Some v
+  get-among m q v among = each_at (λ (e : K × X). get m e.0 ≡ Some e.1) (q, v) (entries m) (get-each m) among
 
   among_found : (q : K) (v : X) (es : List (K × X)) → find R q es ≡ Some v → IsAmong (q, v) es
   among_found q v [] e = absurd (cc)

@@ -1,11 +1,10 @@
 -- Moves leave the alerts placed.
-use Rattle.std.specs.Prelude.{◌≡◌, List, [], ◌∷◌, ◌++◌, ◌⊎◌, ◌≤◌, Option, Some, None, map, option_map, ◌*◌}
+use Rattle.std.specs.Prelude.{◌≡◌, List, [], ◌∷◌, ◌++◌, ◌≤◌, Option, Some, None, map, option_map, ◌*◌}
 use Rattle.std.specs.List.{filter_map, cons_option}
 use Rattle.std.proofs.Common.{refl, sym, ap, ◌∙◌, subst, inl, inr}
 use Rattle.amr_labels.specs.Map.{get, remove, entries}
 use Rattle.amr_labels.specs.Labels.{LabelSet, label_set_cmp_total, label_set_cmp-IsAntisymmetric}
 use Rattle.amr_time.specs.Time.{Moment, second, next_multiple_of}
-use Rattle.amr_rules.specs.declared.alert.Alert.{Alert}
 use Rattle.amr_engine.specs.declared.state.notification.GroupTimer.{GroupTimer}
 use Rattle.amr_engine.specs.declared.state.due.Kind.{Kind}
 use Rattle.amr_engine.specs.declared.state.due.Kind.TheVariants.{AlertRemoval, GroupRemoval, GroupFlush}
@@ -19,6 +18,7 @@ use Rattle.amr_engine.specs.Placed.{IsTimed, IsPlaced}
 use Rattle.amr_engine.proofs.PlacedLists.{Each, get-remove_apart, get-before_remove, get-each}
 use Rattle.amr_engine.proofs.PlacedPosts.{key_or_apart, timed_as}
 use Rattle.amr_engine.proofs.PlacedFlush.{flush_placed}
+use Rattle.amr_engine.proofs.Lasting.{in_either, from_map}
 
 -- ---- the removal of an alert
 
@@ -68,27 +68,6 @@ module _ (at : Moment) (s : State) (group : RouteLabels) where
 
 -- ---- the removal of a group is due
 
-is_in-append : (due : Due) (xs ys : List Due) → IsIn due (xs ++ ys) → IsIn due xs ⊎ IsIn due ys
-is_in-append due [] ys h = inr h
-is_in-append due (x ∷ xs) ys h = elim h [
-  | inl same ↦ inl (inl same)
-  | inr later ↦ elim (is_in-append due xs ys later) [ inl left ↦ inl (inr left) | inr right ↦ inr right ]
-]
-
-no_alert_removal : (due : Due) (es : List (LabelSet × Alert)) → due.kind ≡ GroupRemoval → IsIn due (map alert_removal_of es) → ⊥
-no_alert_removal due [] kind h = h
-no_alert_removal due (e ∷ es) kind h = elim h [
-  | inl same ↦ let no : AlertRemoval ≡ GroupRemoval = sym (ap (λ (d : Due). d.kind) same) ∙ kind in absurd (cc)
-  | inr later ↦ no_alert_removal due es kind later
-]
-
-no_flush : (due : Due) (es : List (RouteLabels × GroupTimer)) → due.kind ≡ GroupRemoval → IsIn due (map flush_of es) → ⊥
-no_flush due [] kind h = h
-no_flush due (e ∷ es) kind h = elim h [
-  | inl same ↦ let no : GroupFlush ≡ GroupRemoval = sym (ap (λ (d : Due). d.kind) same) ∙ kind in absurd (cc)
-  | inr later ↦ no_flush due es kind later
-]
-
 abbrev removal_since : RouteLabels → Option Moment → Option Due
 removal_since group empty_since = option_map (λ since. record { moment = next_multiple_of since (30 * second); kind = GroupRemoval; route = group.route; labels = group.labels }) empty_since
 
@@ -111,12 +90,16 @@ module _ (s : State) (due : Due) where
   -- a group whose removal is due is empty
   removal_emptied : due.kind ≡ GroupRemoval → IsIn due (dues s) → IsEmptied s (on_route due.route due.labels)
   unfolding dues
-  removal_emptied kind h = elim (is_in-append due (map alert_removal_of (entries s.alerts) ++ filter_map group_removal_of (entries s.timers)) (map flush_of (entries s.timers)) h) [
-    | inl front ↦ elim (is_in-append due (map alert_removal_of (entries s.alerts)) (filter_map group_removal_of (entries s.timers)) front) [
-      | inl alert ↦ absurd (no_alert_removal due (entries s.alerts) kind alert)
+  removal_emptied kind h = elim (in_either due (map alert_removal_of (entries s.alerts) ++ filter_map group_removal_of (entries s.timers)) (map flush_of (entries s.timers)) h) [
+    | inl front ↦ elim (in_either due (map alert_removal_of (entries s.alerts)) (filter_map group_removal_of (entries s.timers)) front) [
+      | inl alert ↦
+          let made = from_map alert_removal_of due (entries s.alerts) alert in
+          let no : AlertRemoval ≡ GroupRemoval = sym (ap (λ (d : Due). d.kind) made.2) ∙ kind in absurd (cc)
       | inr group ↦ removal_in (entries s.timers) (get-each route_labels_cmp_total route_labels_cmp-IsAntisymmetric s.timers) group
     ]
-    | inr flushes ↦ absurd (no_flush due (entries s.timers) kind flushes)
+    | inr flushes ↦
+        let made = from_map flush_of due (entries s.timers) flushes in
+        let no : GroupFlush ≡ GroupRemoval = sym (ap (λ (d : Due). d.kind) made.2) ∙ kind in absurd (cc)
   ]
 
 -- a move that is due by the moment leaves the alerts placed

@@ -16,7 +16,8 @@ use Rattle.amr_config.specs.RouteLabels.{on_route, route_labels_cmp, route_label
 use Rattle.amr_engine.specs.State.State.{State, group_key, timer_with, insert_into_group, insert_into_groups}
 use Rattle.amr_engine.specs.Events.{put, with_config}
 use Rattle.amr_engine.specs.Placed.{IsTimed, IsPlaced}
-use Rattle.amr_engine.proofs.PlacedLists.{Each, IsAmong, among_entries, each_weaker, contains_cases, contains_none, each_contained, same_or_apart, get-inserted, get-insert_apart, get-each}
+use Rattle.amr_engine.proofs.Listed.{none_listed, first_or_rest}
+use Rattle.amr_engine.proofs.PlacedLists.{Each, IsAmong, among_entries, each_weaker, each_contained, same_or_apart, get-inserted, get-insert_apart, get-each}
 
 -- two keys are the same, or they differ and compare as different
 pub key_or_apart : (q k : RouteLabels) → (q ≡ k) ⊎ ((q ≡ k → ⊥) × (eq_by_cmp route_labels_cmp q k ≡ false))
@@ -118,8 +119,8 @@ module _ (labels : LabelSet) (alert : Alert) where
   on_each_still (r ∷ rs) s n e = on_each_still rs (insert_into_group labels alert s r) n (still_placed labels alert s r n e)
 
   on_each_placed : (rs : List ℕ) (s : State) (n : ℕ) → Contains rs n → get (fold (insert_into_group labels alert) s rs).placements (on_route n labels) ≡ Some alert
-  on_each_placed [] s n has = absurd (contains_none n has)
-  on_each_placed (r ∷ rs) s n has = elim (contains_cases r rs n has) [
+  on_each_placed [] s n has = absurd (none_listed n has)
+  on_each_placed (r ∷ rs) s n has = elim (first_or_rest r n rs has) [
     | inl same ↦ on_each_still rs (insert_into_group labels alert s r) n (subst (λ (x : ℕ). get (insert_into_group labels alert s r).placements (on_route x labels) ≡ Some alert) same (placed_here labels alert s r))
     | inr later ↦ on_each_placed rs (insert_into_group labels alert s r) n later
   ]
@@ -128,17 +129,11 @@ module _ (labels : LabelSet) (alert : Alert) where
   on_each_others [] s q differ = refl
   on_each_others (r ∷ rs) s q differ = on_each_others rs (insert_into_group labels alert s r) q differ ∙ others_stay labels alert s r q differ
 
-  on_each_alerts : (rs : List ℕ) (s : State) → (fold (insert_into_group labels alert) s rs).alerts ≡ s.alerts
-  on_each_alerts [] s = refl
-  on_each_alerts (r ∷ rs) s = on_each_alerts rs (insert_into_group labels alert s r)
-
-  on_each_config : (rs : List ℕ) (s : State) → (fold (insert_into_group labels alert) s rs).config ≡ s.config
-  on_each_config [] s = refl
-  on_each_config (r ∷ rs) s = on_each_config rs (insert_into_group labels alert s r)
-
-  on_each_moment : (rs : List ℕ) (s : State) → (fold (insert_into_group labels alert) s rs).moment ≡ s.moment
-  on_each_moment [] s = refl
-  on_each_moment (r ∷ rs) s = on_each_moment rs (insert_into_group labels alert s r)
+  -- only members and timers are changed
+  on_each_is : (rs : List ℕ) (s : State) → fold (insert_into_group labels alert) s rs
+      ≡ record s { placements = (fold (insert_into_group labels alert) s rs).placements; timers = (fold (insert_into_group labels alert) s rs).timers }
+  on_each_is [] s = refl
+  on_each_is (r ∷ rs) s = on_each_is rs (insert_into_group labels alert s r)
 
 module _ (s : State) (labels : LabelSet) (alert : Alert) where
   inserted_in_groups : AreInGroups s → AreInGroups (insert_into_groups s (labels, alert))
@@ -153,21 +148,13 @@ module _ (s : State) (labels : LabelSet) (alert : Alert) where
   unfolding insert_into_groups
   inserted_placed = on_each_placed labels alert (chosen_routes s.config labels) s
 
-  inserted_others : (q : RouteLabels) → (q.labels ≡ labels → ⊥) → get (insert_into_groups s (labels, alert)).placements q ≡ get s.placements q
+  pub inserted_others : (q : RouteLabels) → (q.labels ≡ labels → ⊥) → get (insert_into_groups s (labels, alert)).placements q ≡ get s.placements q
   unfolding insert_into_groups
   inserted_others = on_each_others labels alert (chosen_routes s.config labels) s
 
-  inserted_alerts : (insert_into_groups s (labels, alert)).alerts ≡ s.alerts
+  pub inserted_is : insert_into_groups s (labels, alert) ≡ record s { placements = (insert_into_groups s (labels, alert)).placements; timers = (insert_into_groups s (labels, alert)).timers }
   unfolding insert_into_groups
-  inserted_alerts = on_each_alerts labels alert (chosen_routes s.config labels) s
-
-  inserted_config : (insert_into_groups s (labels, alert)).config ≡ s.config
-  unfolding insert_into_groups
-  inserted_config = on_each_config labels alert (chosen_routes s.config labels) s
-
-  inserted_moment : (insert_into_groups s (labels, alert)).moment ≡ s.moment
-  unfolding insert_into_groups
-  inserted_moment = on_each_moment labels alert (chosen_routes s.config labels) s
+  inserted_is = on_each_is labels alert (chosen_routes s.config labels) s
 
 -- ---- a post
 
@@ -195,8 +182,8 @@ module _ (at : Moment) (s : State) (labels : LabelSet) (stored : Alert) where
   stored_is_placed : IsPlaced at s → IsPlaced at after
   stored_is_placed placed = record {
     copied = λ asked found e fires route takes.
-        store_copied placed asked found (ap (λ m. get m asked) (sym (inserted_alerts with_stored labels stored)) ∙ e) fires route
-        (subst (λ (c : Config). Contains (chosen_routes c asked) route) (inserted_config with_stored labels stored) takes);
+        store_copied placed asked found (ap (λ m. get m asked) (sym (ap (λ (x : State). x.alerts) (inserted_is with_stored labels stored))) ∙ e) fires route
+        (subst (λ (c : Config). Contains (chosen_routes c asked) route) (ap (λ (x : State). x.config) (inserted_is with_stored labels stored)) takes);
     chosen_only = then.chosen_only;
     timed = then.timed;
   }
@@ -210,7 +197,9 @@ put_placed at s alert = stored_is_placed at s alert.0 (alert_to_store s.moment (
 
 pub put_moment : (s : State) (alert : LabelSet × Alert) → (put s alert).moment ≡ s.moment
 unfolding put
-put_moment s alert = inserted_moment (record s { alerts = insert s.alerts alert.0 (alert_to_store s.moment (get s.alerts alert.0) alert.1) }) alert.0 (alert_to_store s.moment (get s.alerts alert.0) alert.1)
+put_moment s alert =
+    let stored : Alert = alert_to_store s.moment (get s.alerts alert.0) alert.1 in
+    ap (λ (x : State). x.moment) (inserted_is (record s { alerts = insert s.alerts alert.0 stored }) alert.0 stored)
 
 pub post_placed : (at : Moment) (alerts : List (LabelSet × Alert)) (s : State) → IsPlaced at s → IsPlaced at (fold put s alerts)
 post_placed at [] s placed = placed
@@ -229,17 +218,11 @@ fold_in_groups : (es : List (LabelSet × Alert)) (s : State) → AreInGroups s �
 fold_in_groups [] s before = before
 fold_in_groups (e ∷ es) s before = fold_in_groups es (insert_into_groups s e) (inserted_in_groups s e.0 e.1 before)
 
-fold_alerts : (es : List (LabelSet × Alert)) (s : State) → (fold insert_into_groups s es).alerts ≡ s.alerts
-fold_alerts [] s = refl
-fold_alerts (e ∷ es) s = fold_alerts es (insert_into_groups s e) ∙ inserted_alerts s e.0 e.1
-
-fold_config : (es : List (LabelSet × Alert)) (s : State) → (fold insert_into_groups s es).config ≡ s.config
-fold_config [] s = refl
-fold_config (e ∷ es) s = fold_config es (insert_into_groups s e) ∙ inserted_config s e.0 e.1
-
-fold_moment : (es : List (LabelSet × Alert)) (s : State) → (fold insert_into_groups s es).moment ≡ s.moment
-fold_moment [] s = refl
-fold_moment (e ∷ es) s = fold_moment es (insert_into_groups s e) ∙ inserted_moment s e.0 e.1
+fold_is : (es : List (LabelSet × Alert)) (s : State) → fold insert_into_groups s es ≡ record s { placements = (fold insert_into_groups s es).placements; timers = (fold insert_into_groups s es).timers }
+fold_is [] s = refl
+fold_is (e ∷ es) s =
+    let end : State = fold insert_into_groups (insert_into_groups s e) es in
+    fold_is es (insert_into_groups s e) ∙ ap (λ (x : State). record x { placements = end.placements; timers = end.timers }) (inserted_is s e.0 e.1)
 
 module _ (labels : LabelSet) (alert : Alert) where
   -- an entry with these labels has this alert
@@ -260,7 +243,7 @@ module _ (labels : LabelSet) (alert : Alert) where
   fold_placed [] s n agree among takes = absurd among
   fold_placed (e ∷ es) s n agree among takes = elim among [
     | inl same ↦ fold_again es (insert_into_groups s e) n agree.1 (subst (λ (x : LabelSet × Alert). get (insert_into_groups s x).placements (on_route n labels) ≡ Some alert) same (inserted_placed s labels alert n takes))
-    | inr later ↦ fold_placed es (insert_into_groups s e) n agree.1 later (subst (λ (c : Config). Contains (chosen_routes c labels) n) (sym (inserted_config s e.0 e.1)) takes)
+    | inr later ↦ fold_placed es (insert_into_groups s e) n agree.1 later (subst (λ (c : Config). Contains (chosen_routes c labels) n) (sym (ap (λ (x : State). x.config) (inserted_is s e.0 e.1))) takes)
   ]
 
 module _ (at : Moment) (s : State) (config : Config) where
@@ -283,10 +266,10 @@ module _ (at : Moment) (s : State) (config : Config) where
   unfolding with_config
   reload_placed = record {
     copied = λ labels alert is fires n takes.
-        let stored : get s.alerts labels ≡ Some alert = ap (λ m. get m labels) (sym (fold_alerts (entries s.alerts) emptied)) ∙ is in
+        let stored : get s.alerts labels ≡ Some alert = ap (λ m. get m labels) (sym (ap (λ (x : State). x.alerts) (fold_is (entries s.alerts) emptied))) ∙ is in
         fold_placed labels alert (entries s.alerts) emptied n (entries_agree labels alert stored)
         (among_entries label_set_cmp_total label_set_cmp-IsAntisymmetric s.alerts labels alert stored)
-        (subst (λ (c : Config). Contains (chosen_routes c labels) n) (fold_config (entries s.alerts) emptied) takes);
+        (subst (λ (c : Config). Contains (chosen_routes c labels) n) (ap (λ (x : State). x.config) (fold_is (entries s.alerts) emptied)) takes);
     chosen_only = then.chosen_only;
     timed = then.timed;
   }
@@ -296,4 +279,4 @@ module _ (at : Moment) (s : State) (config : Config) where
 
   pub reload_moment : (with_config s config).moment ≡ s.moment
   unfolding with_config
-  reload_moment = fold_moment (entries s.alerts) emptied
+  reload_moment = ap (λ (x : State). x.moment) (fold_is (entries s.alerts) emptied)

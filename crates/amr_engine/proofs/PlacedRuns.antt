@@ -1,8 +1,7 @@
 -- Events leave the alerts placed, and so does a run.
-use Rattle.std.specs.Prelude.{◌≡◌, ◌≤◌, Bool, true, false, List, [], ◌∷◌, ◌++◌, Option, Some, None, Result, Ok, Err, nat_le, if◌then◌else◌}
+use Rattle.std.specs.Prelude.{◌≡◌, List, [], ◌∷◌, ◌++◌, Option, Some, None, Result, Ok, Err}
 use Rattle.std.specs.List.{fold, All}
-use Rattle.std.proofs.Common.{refl, sym, ◌∙◌, subst, arith}
-use Rattle.std.proofs.lemmas.Bool.Decides.{nat_tests}
+use Rattle.std.proofs.Common.{refl, sym, ◌∙◌, subst}
 use Rattle.std.proofs.lemmas.List.Elements.{All-nil, All-push, All-pop}
 use Rattle.amr_labels.specs.Map.{get-empty}
 use Rattle.amr_labels.specs.Labels.{LabelSet, label_set_cmp}
@@ -14,38 +13,21 @@ use Rattle.amr_events.specs.Posts.Reasons.{Reason}
 use Rattle.amr_events.specs.Actions.Events.{Event, Act}
 use Rattle.amr_config.specs.RouteLabels.{on_route, route_labels_cmp}
 use Rattle.amr_engine.specs.State.State.{State, start}
-use Rattle.amr_engine.specs.State.Dues.{Due, least_due, due_by, dues, next_due}
+use Rattle.amr_engine.specs.State.Dues.{Due, next_due}
 use Rattle.amr_engine.specs.Moves.{move}
 use Rattle.amr_engine.specs.Events.{put_all, valid_alerts, with_config, with_silences, on_ok, after_act, at_moment, put, after_event, run_of, without_notifications}
-use Rattle.amr_engine.specs.Said.{IsIn}
 use Rattle.amr_engine.specs.Placed.{IsPlaced, ArePlaced, StayPlaced, HasTimers}
-use Rattle.amr_engine.proofs.MovesLaws.{least_due-IsLeast}
 use Rattle.amr_engine.proofs.Invariant.{holds_after_event, holds_after_run}
 use Rattle.amr_engine.proofs.PlacedPosts.{placed_as, post_placed, post_moment, reload_placed, reload_moment}
 use Rattle.amr_engine.proofs.PlacedFlush.{placed_later}
 use Rattle.amr_engine.proofs.PlacedMoves.{move_placed}
+use Rattle.amr_engine.proofs.Lasting.{next_is_due}
 
 -- ---- moves
 
--- the next move is pending, and due by the moment
-next_is : (at : Moment) (s : State) (due : Due) → next_due at s ≡ Some due → IsIn due (dues s) × (due.moment ≤ at)
-unfolding next_due
-next_is at s due e = by (least_due (dues s)) refl e
-  where
-    within : (least : Due) (b : Bool) → least_due (dues s) ≡ Some least → nat_le least.moment at ≡ b → (if b then Some least else None) ≡ Some due → IsIn due (dues s) × (due.moment ≤ at)
-    within least true is order e =
-        let same : least ≡ due = cc in
-        let before : least.moment ≤ at = grind (arith, nat_tests) in
-        subst (λ (d : Due). IsIn d (dues s) × (d.moment ≤ at)) same ((least_due-IsLeast (dues s) least is).among, before)
-    within least false is order e = absurd (cc)
-
-    by : (o : Option Due) → least_due (dues s) ≡ o → due_by at o ≡ Some due → IsIn due (dues s) × (due.moment ≤ at)
-    by None is e = absurd (cc)
-    by (Some least) is e = within least (nat_le least.moment at) is refl e
-
 -- the next move leaves the alerts placed
 due_placed : (at : Moment) (s : State) (due : Due) → next_due at s ≡ Some due → IsPlaced at s → IsPlaced at (move due s)
-due_placed at s due e = let next = next_is at s due e in move_placed at s due next.0 next.1
+due_placed at s due e = let next = next_is_due at s due e in move_placed at s due next.0 next.1
 
 -- ---- actions
 

@@ -3,7 +3,6 @@ use Rattle.std.proofs.Common.{◌≡◌, true, false, ℕ, List, [], ◌∷◌, 
 use Rattle.std.specs.Prelude.{◌==◌}
 use Rattle.std.specs.Option.{option_map_or}
 use Rattle.std.specs.List.{fold, filter_map}
-use Rattle.std.proofs.lemmas.Bool.Decides.{nat_tests}
 use Rattle.amr_labels.specs.Map.{get, insert}
 use Rattle.amr_labels.specs.Labels.{Text, LabelSet}
 use Rattle.amr_time.specs.Time.{Moment, Span}
@@ -22,16 +21,10 @@ use Rattle.amr_engine.specs.State.State.{State}
 use Rattle.amr_engine.specs.declared.prepare.Prepared.TheVariants as prepared
 use Rattle.amr_engine.specs.Events.{after_act, at_moment, on_ok, put, put_all, valid_alerts, skipped_from, with_silences, with_config}
 use Rattle.amr_engine.specs.Prepared.{DoesAsPrepared, Stays}
+use Rattle.amr_engine.proofs.Listed.{none_left}
 
 abbrev pub Valid : Type 0
 Valid = List (LabelSet × Alert)
-
-zero_is : (n : ℕ) → (n == 0) ≡ true → n ≡ 0
-zero_is n e = grind (arith, nat_tests)
-
-none_left : {A : Type 0} (xs : List A) → (length xs == 0) ≡ true → xs ≡ []
-none_left [] e = refl
-none_left (x ∷ xs) e = absurd (omega (arith, zero_is (length (x ∷ xs)) e))
 
 put_some : (s : State) (v : Valid) → (length v == 0) ≡ false → put_all s v ≡ Ok (fold put s v)
 put_some s [] h = absurd (cc)

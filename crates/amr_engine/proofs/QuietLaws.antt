@@ -4,6 +4,7 @@ use Rattle.std.specs.List.{list_all, list_any, find, filter, fold}
 use Rattle.std.specs.Option.{option_or, is_none}
 use Rattle.std.proofs.Common.{refl, sym, ap, ◌∙◌, arith, inl, inr}
 use Rattle.std.proofs.lemmas.Bool.Decides.{nat_tests}
+use Rattle.std.proofs.lemmas.Bool.{and_parts, not-true}
 use Rattle.amr_labels.specs.Map.{Map, get, entries}
 use Rattle.amr_labels.specs.Labels.{LabelSet, Text}
 use Rattle.amr_time.specs.Time.{Moment, Span}
@@ -27,14 +28,14 @@ use Rattle.amr_engine.specs.declared.state.notification.GroupTimer.{GroupTimer}
 use Rattle.amr_engine.specs.declared.state.notification.Notification.{Notification}
 use Rattle.amr_labels.specs.Set.{is_subset, is_empty}
 use Rattle.amr_engine.specs.declared.verdict.Finding.TheVariants.{Inhibited, OutsideActive, TimeMuted, Silenced}
-use Rattle.amr_engine.proofs.FewerNotified.{both, is_no, fewer_notified}
+use Rattle.amr_engine.proofs.FewerNotified.{fewer_notified}
 use Rattle.amr_engine.specs.Quiet.{is_outside, no_alert_ends, no_source_ends, no_silence_turns, IsStill, all_fire_until, is_untimed, no_repeat_before, is_notified, are_notified, with_timer_reset, IsAllNotified, IsQuietWith, IsQuiet}
 
 -- two tests find the same where they agree on each element
 found_same : {X : Type 0} (ok p q : X → Bool) → ((x : X) → ok x ≡ true → p x ≡ q x) → (xs : List X) → list_all ok xs ≡ true → find p xs ≡ find q xs
 found_same ok p q same [] all = refl
 found_same ok p q same (x ∷ xs) all =
-    let parts = both (ok x) (list_all ok xs) all in
+    let parts = and_parts (ok x) (list_all ok xs) all in
     (λ i. cond (same x parts.0 i) (Some x) (found_same ok p q same xs parts.1 i))
 
 some_named : (name : Text) (names : List Text) → (length (name ∷ names) == 0) ≡ true → ⊥
@@ -78,7 +79,7 @@ module _ (from until at : Moment) (not_before : from ≤ at) (before : at < unti
   silences_same : (labels : LabelSet) (stored : ℕ × Silence) → (is_outside from until stored.1.starts_at && is_outside from until stored.1.ends_at) ≡ true
       → silences_labels at stored.1 labels ≡ silences_labels from stored.1 labels
   silences_same labels stored out =
-      let parts = both (is_outside from until stored.1.starts_at) (is_outside from until stored.1.ends_at) out in
+      let parts = and_parts (is_outside from until stored.1.starts_at) (is_outside from until stored.1.ends_at) out in
       (λ i. (past_same stored.1.starts_at parts.0 i && ahead_same stored.1.ends_at parts.1 i) && Rattle.amr_labels.specs.Matcher.Matchers.all_hold stored.1.matchers labels)
 
   silencer_same : (silences : Silences) → no_silence_turns from until silences ≡ true → (labels : LabelSet) → silencer_of at labels silences ≡ silencer_of from labels silences
@@ -95,12 +96,12 @@ module _ (from until at : Moment) (not_before : from ≤ at) (before : at < unti
 
   active_same : (config : Config) (route : ℕ) → is_untimed config route ≡ true → is_active_at config route at ≡ is_active_at config route from
   active_same config route untimed =
-      let none = (both (length (active_intervals_of config route) == 0) (length (mute_intervals_of config route) == 0) untimed).0 in
+      let none = (and_parts (length (active_intervals_of config route) == 0) (length (mute_intervals_of config route) == 0) untimed).0 in
       active_always config at (active_intervals_of config route) none ∙ sym (active_always config from (active_intervals_of config route) none)
 
   muted_same : (config : Config) (route : ℕ) → is_untimed config route ≡ true → is_muted_at config route at ≡ is_muted_at config route from
   muted_same config route untimed =
-      let none = (both (length (active_intervals_of config route) == 0) (length (mute_intervals_of config route) == 0) untimed).1 in
+      let none = (and_parts (length (active_intervals_of config route) == 0) (length (mute_intervals_of config route) == 0) untimed).1 in
       muted_never config at (mute_intervals_of config route) none ∙ sym (muted_never config from (mute_intervals_of config route) none)
 
   taken_same : (s : State) (route : ℕ) → IsStill s from until → is_untimed s.config route ≡ true
@@ -120,19 +121,19 @@ module _ (from until at : Moment) (not_before : from ≤ at) (before : at < unti
   pub firing_all : (ms : Members) → all_fire_until until ms ≡ true → firing_of at ms ≡ ms
   firing_all [] fire = refl
   firing_all (m ∷ ms) fire =
-      let parts = both (nat_le until m.1.ends_at) (all_fire_until until ms) fire in
+      let parts = and_parts (nat_le until m.1.ends_at) (all_fire_until until ms) fire in
       (λ i. cond (not (resolved_not m.1 parts.0 i)) (m ∷ firing_all ms parts.1 i) (firing_all ms parts.1 i))
 
   pub resolved_none : (ms : Members) → all_fire_until until ms ≡ true → resolved_of at ms ≡ []
   resolved_none [] fire = refl
   resolved_none (m ∷ ms) fire =
-      let parts = both (nat_le until m.1.ends_at) (all_fire_until until ms) fire in
+      let parts = and_parts (nat_le until m.1.ends_at) (all_fire_until until ms) fire in
       (λ i. cond (resolved_not m.1 parts.0 i) (m ∷ resolved_none ms parts.1 i) (resolved_none ms parts.1 i))
 
   fire_kept : (p : LabelSet × Alert → Bool) (ms : Members) → all_fire_until until ms ≡ true → all_fire_until until (filter p ms) ≡ true
   fire_kept p [] fire = refl
   fire_kept p (m ∷ ms) fire =
-      let parts = both (nat_le until m.1.ends_at) (all_fire_until until ms) fire in
+      let parts = and_parts (nat_le until m.1.ends_at) (all_fire_until until ms) fire in
       elim (p m) as (λ b. all_fire_until until (cond b (m ∷ filter p ms) (filter p ms)) ≡ true) [
         | true ↦ (λ i. parts.0 i && fire_kept p ms parts.1 i)
         | false ↦ fire_kept p ms parts.1
@@ -155,16 +156,16 @@ module _ (from until at : Moment) (not_before : from ≤ at) (before : at < unti
       → notify_if_due at group ms s integration ≡ s
   unfolding notify_if_due
   notify_none s group ms fire integration notified =
-      let parts = both _ _ notified in
+      let parts = and_parts _ _ notified in
       ap (λ b. if b then record_notification at group (log_key_of s.config group integration) integration.send_resolved ms s else s)
       ((λ i. needs_update (get s.log (log_key_of s.config group integration)) (labels_of (firing_all ms fire i)) (labels_of (resolved_none ms fire i)) integration.send_resolved at (repeat_interval_of s.config group.route))
-      ∙ still_notified (get s.log (log_key_of s.config group integration)) (labels_of ms) (labels_of []) integration.send_resolved (repeat_interval_of s.config group.route) (is_no _ parts.0) parts.1)
+      ∙ still_notified (get s.log (log_key_of s.config group integration)) (labels_of ms) (labels_of []) integration.send_resolved (repeat_interval_of s.config group.route) (not-true _ parts.0) parts.1)
 
   notify_integrations_none : (s : State) (group : RouteLabels) (ms : Members) → all_fire_until until ms ≡ true → (integrations : List Integration)
       → list_all (is_notified s group from until (labels_of ms)) integrations ≡ true → fold (notify_if_due at group ms) s integrations ≡ s
   notify_integrations_none s group ms fire [] notified = refl
   notify_integrations_none s group ms fire (integration ∷ integrations) notified =
-      let parts = both (is_notified s group from until (labels_of ms) integration) (list_all (is_notified s group from until (labels_of ms)) integrations) notified in
+      let parts = and_parts (is_notified s group from until (labels_of ms) integration) (list_all (is_notified s group from until (labels_of ms)) integrations) notified in
       ap (λ (x : State). fold (notify_if_due at group ms) x integrations) (notify_none s group ms fire integration parts.0) ∙ notify_integrations_none s group ms fire integrations parts.1
 
   notify_receiver_none : (s : State) (group : RouteLabels) (ms : Members) → all_fire_until until ms ≡ true → are_notified s group from until ms ≡ true → notify_receiver at group ms s ≡ s

@@ -1,12 +1,12 @@
 -- What leaves a group quiet: the clock, group timers, notifications, and the flush of another group.
-use Rattle.std.specs.Prelude.{◌≡◌, Bool, true, false, not, ◌&&◌, List, [], ◌∷◌, Some, if◌then◌else◌, cond, map}
+use Rattle.std.specs.Prelude.{◌≡◌, Bool, true, false, not, ◌&&◌, List, [], ◌∷◌, Some, cond, map}
 use Rattle.std.specs.List.{list_all, filter, fold}
 use Rattle.std.specs.declared.cmp.Ordering.{Ordering}
-use Rattle.std.specs.declared.cmp.Ordering.TheVariants.{Less, Equal, Greater}
-use Rattle.std.specs.Ordering.{eq_by_cmp, is_eq}
+use Rattle.std.specs.Ordering.{eq_by_cmp}
 use Rattle.std.specs.FinMap.{IsAntisymmetric}
 use Rattle.std.specs.FinMap.Entries.{where_key}
 use Rattle.std.proofs.Common.{refl, sym, ap, ◌∙◌, subst, inl, inr}
+use Rattle.std.proofs.lemmas.Map.Views.{tells_apart}
 use Rattle.amr_labels.specs.Map.{get, insert, remove, entries, get-insert, entries-retain_keys}
 use Rattle.amr_labels.specs.Labels.{LabelSet}
 use Rattle.amr_time.specs.Time.{Moment}
@@ -24,7 +24,8 @@ use Rattle.amr_config.specs.declared.route_labels.RouteLabels.{RouteLabels}
 use Rattle.amr_config.specs.RouteLabels.{on_route, route_labels_cmp, route_labels_cmp-IsAntisymmetric}
 use Rattle.amr_engine.specs.State.State.{State, log_key_cmp_total, log_key_cmp-IsAntisymmetric, group_key, members}
 use Rattle.amr_engine.specs.Stages.{taken_away}
-use Rattle.amr_engine.specs.Flush.{Members, firing_of, resolved_of, labels_of, log_key_of, record_notification, notify_if_due, notify_receiver, set_timer, drop_member, mark_if_empty, drop_resolved, run_pipeline, flush, let_through}
+use Rattle.amr_engine.specs.Flush.{Members, firing_of, resolved_of, labels_of, log_key_of, notify_receiver, set_timer, drop_member, mark_if_empty, drop_resolved, run_pipeline, flush, let_through}
+use Rattle.amr_engine.proofs.MovesKeep.{notify_receiver_holds}
 use Rattle.amr_engine.specs.Quiet.{with_timer_reset, no_repeat_before, is_notified, are_notified, IsQuietWith, IsQuiet, LeavesOthers, IsStill, no_source_ends, no_silence_turns}
 
 -- ---- states that are the same for other groups
@@ -41,10 +42,6 @@ module _ (flushed : RouteLabels) where
     members = λ group other. b.members group other ∙ a.members group other;
     log = λ key other. b.log key (λ integration e. other integration (e ∙ ap (λ (c : Config). log_key_of c flushed integration) a.config)) ∙ a.log key other;
   }
-
-  leaves_fold : {A : Type 0} (f : State → A → State) → ((s : State) (a : A) → LeavesOthers flushed s (f s a)) → (s : State) (items : List A) → LeavesOthers flushed s (fold f s items)
-  leaves_fold f step s [] = leaves_all s
-  leaves_fold f step s (a ∷ rest) = leaves_then s (f s a) (fold f (f s a) rest) (step s a) (leaves_fold f step (f s a) rest)
 
 -- the first state with the parts of the second that may differ
 abbrev mixed : State → State → State
@@ -93,16 +90,11 @@ still_left flushed s t same from until still = record {
 
 -- ---- the flush of another group
 
-pub equal : (r : Ordering) → is_eq r ≡ true → r ≡ Equal
-equal Less e = absurd (cc)
-equal Equal e = refl
-equal Greater e = absurd (cc)
-
 -- different keys don't compare as equal
 pub apart : {K : Type 0} {R : K → K → Ordering} → IsAntisymmetric R → (a b : K) → (a ≡ b → ⊥) → eq_by_cmp R a b ≡ false
 apart {R = R} exact a b differ =
     elim (eq_by_cmp R a b) as (λ c. eq_by_cmp R a b ≡ c → c ≡ false) [
-      | true ↦ λ e. absurd (differ (exact a b (equal (R a b) e)))
+      | true ↦ λ e. absurd (differ (tells_apart exact a b e))
       | false ↦ λ e. refl
     ] refl
 
@@ -148,7 +140,7 @@ all_belong config group (placement ∷ placements) =
     elim (eq_by_cmp route_labels_cmp (group_key config placement.0) group) as (λ b. eq_by_cmp route_labels_cmp (group_key config placement.0) group ≡ b
     → AllBelong config group (map (λ placement. (placement.0.labels, placement.1))
     (cond b (placement ∷ filter (λ placement. eq_by_cmp route_labels_cmp (group_key config placement.0) group) placements) (filter (λ placement. eq_by_cmp route_labels_cmp (group_key config placement.0) group) placements)))) [
-      | true ↦ λ e. (belongs config group placement (route_labels_cmp-IsAntisymmetric (group_key config placement.0) group (equal _ e)), all_belong config group placements)
+      | true ↦ λ e. (belongs config group placement (tells_apart route_labels_cmp-IsAntisymmetric (group_key config placement.0) group e), all_belong config group placements)
       | false ↦ λ e. all_belong config group placements
     ] refl
 
@@ -174,25 +166,16 @@ module _ (flushed : RouteLabels) where
         ∙ ap (λ b. cond b (Some entry) (get s.log asked)) (apart log_key_cmp-IsAntisymmetric asked key (λ e. other integration (e ∙ of)));
   }
 
-  notify_leaves : (at : Moment) (ms : Members) (s : State) (integration : Integration) → LeavesOthers flushed s (notify_if_due at flushed ms s integration)
-  unfolding notify_if_due
-  notify_leaves at ms s integration =
-      elim (needs_update (get s.log (log_key_of s.config flushed integration)) (labels_of (firing_of at ms)) (labels_of (resolved_of at ms)) integration.send_resolved at (repeat_interval_of s.config flushed.route))
-      as (λ b. LeavesOthers flushed s (if b then record_notification at flushed (log_key_of s.config flushed integration) integration.send_resolved ms s else s)) [
-        | true ↦ log_leaves s (log_key_of s.config flushed integration) integration refl _ _
-        | false ↦ leaves_all flushed s
-      ]
-
   notify_receiver_leaves : (at : Moment) (ms : Members) (s : State) → LeavesOthers flushed s (notify_receiver at flushed ms s)
-  notify_receiver_leaves at [] s = leaves_all flushed s
-  notify_receiver_leaves at (m ∷ ms) s = leaves_fold flushed (notify_if_due at flushed (m ∷ ms)) (notify_leaves at (m ∷ ms)) s (integrations_of s.config flushed.route)
+  notify_receiver_leaves at ms s = notify_receiver_holds (LeavesOthers flushed s) at flushed ms
+      (λ t integration left. leaves_then flushed s t _ left (log_leaves t (log_key_of t.config flushed integration) integration refl _ _)) s (leaves_all flushed s)
 
   -- a member of another group isn't one of the flushed group
   stays_member : (config : Config) (group : RouteLabels) → (group ≡ flushed → ⊥) → (gone : RouteLabels) → group_key config gone ≡ flushed → (placement : RouteLabels × Alert)
       → eq_by_cmp route_labels_cmp (group_key config placement.0) group ≡ true → not (eq_by_cmp route_labels_cmp gone placement.0) ≡ true
   stays_member config group other gone of placement in_group =
       ap not (apart route_labels_cmp-IsAntisymmetric gone placement.0 (λ e.
-      other (sym (route_labels_cmp-IsAntisymmetric (group_key config placement.0) group (equal _ in_group)) ∙ ap (group_key config) (sym e) ∙ of)))
+      other (sym (tells_apart route_labels_cmp-IsAntisymmetric (group_key config placement.0) group in_group) ∙ ap (group_key config) (sym e) ∙ of)))
 
   drop_member_leaves : (s : State) (member : LabelSet × Alert) → BelongsTo s.config flushed member → LeavesOthers flushed s (drop_member flushed s member)
   unfolding members remove

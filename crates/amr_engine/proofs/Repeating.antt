@@ -4,6 +4,7 @@ use Rattle.std.specs.Ordering.{eq_by_cmp}
 use Rattle.std.proofs.Common.{refl, sym, ap, ◌∙◌, subst, inl, inr, arith}
 use Rattle.std.proofs.lemmas.Bool.Decides.{nat_tests}
 use Rattle.std.proofs.lemmas.List.Folds.{list_all-map}
+use Rattle.std.proofs.lemmas.Map.Views.{tells_apart}
 use Rattle.amr_labels.specs.Map.{get, entries, get-insert}
 use Rattle.amr_labels.specs.Set.{contains, is_subset, is_empty}
 use Rattle.amr_time.specs.Time.{Moment, Span}
@@ -23,8 +24,7 @@ use Rattle.amr_engine.specs.State.State.{State, log_key_cmp, log_key_cmp_total, 
 use Rattle.amr_engine.specs.Flush.{Members, firing_of, resolved_of, labels_of, log_key_of, let_through, record_notification, notify_if_due, notify_receiver, run_pipeline, flush}
 use Rattle.amr_engine.specs.Told.{RepeatsWait}
 use Rattle.amr_engine.specs.Moves.{move, move_of_kind}
-use Rattle.amr_engine.proofs.QuietStays.{equal}
-use Rattle.amr_engine.proofs.Told.{fold_holds, drop_holds}
+use Rattle.amr_engine.proofs.MovesKeep.{fold_holds, drop_holds}
 
 -- ---- the dedup check of the sets that are there already
 
@@ -65,7 +65,7 @@ module _ (at : Moment) (group : RouteLabels) (ms : Members) (config : Config) (k
     after_due true match is =
         let found : get (record_notification at group at_key send_resolved ms s).log key ≡ Some written =
         get-insert log_key_cmp_total s.log at_key written key ∙ ap (λ b. cond b (Some written) (get s.log key)) match in
-        let same_key : at_key ≡ key = sym (log_key_cmp-IsAntisymmetric key at_key (equal (log_key_cmp key at_key) match)) in (
+        let same_key : at_key ≡ key = sym (tells_apart log_key_cmp-IsAntisymmetric key at_key match) in (
           is.0,
           inr (
             found,
@@ -120,7 +120,7 @@ pipeline_due : (at : Moment) (group : RouteLabels) (ms : Members) (s : State) (k
 pipeline_due at group [] s key old was = ([], (refl, inl was))
 pipeline_due at group (m ∷ ms) s key old was =
     let through : Members = let_through s at group.route (m ∷ ms) in
-    (through, drop_holds (IsOldOrDue at group through s.config key old) (λ group at s is. is) (λ group s member is. is) at group (m ∷ ms) (notify_receiver at group through s) (notify_receiver_due at group through s key old was))
+    (through, drop_holds (IsOldOrDue at group through s.config key old) group (λ change s is. is) (λ s member is. is) at (m ∷ ms) (notify_receiver at group through s) (notify_receiver_due at group through s key old was))
 
 flush_waits : (at : Moment) (group : RouteLabels) (s : State) → RepeatsWait s group.route (flush at group s)
 unfolding flush

@@ -33,7 +33,8 @@ use Rattle.amr_engine.specs.Said.{Does}
 use Rattle.amr_engine.specs.Neutral.{Accepts}
 use Rattle.amr_engine.specs.Told.{LogIsNotified, AllAreNotified, after_moves}
 use Rattle.amr_engine.proofs.MovesLaws.{do_within-Does}
-use Rattle.amr_engine.proofs.Told.{fold_holds, drop_holds, move_holds, between_is_notified}
+use Rattle.amr_engine.proofs.Told.{move_holds, between_is_notified}
+use Rattle.amr_engine.proofs.MovesKeep.{fold_holds, drop_holds, notify_holds}
 use Rattle.amr_engine.proofs.Listed.{none_listed, first_or_rest, listed_filter, listed_map, in_set, in_superset, listed_in_set}
 
 -- the log has an entry of the key with the alert among those that fire
@@ -100,23 +101,12 @@ module _ (at : Moment) (group : RouteLabels) (ms : Members) (labels : LabelSet) 
 
   -- the configuration stays
   notify_config : (s : State) (integration : Integration) → (notify_if_due at group ms s integration).config ≡ s.config
-  unfolding notify_if_due
-  notify_config s integration =
-      elim (needs_update (get s.log (key_at s integration)) firing resolved integration.send_resolved at (repeat_interval_of s.config group.route))
-      as (λ b. (if b then record_notification at group (key_at s integration) integration.send_resolved ms s else s).config ≡ s.config) [
-        | true ↦ refl
-        | false ↦ refl
-      ]
+  notify_config s integration = notify_holds (λ x. x.config ≡ s.config) at group ms (λ _ _ e. e) s integration refl
 
   -- and after the turns of others
   notify_leaves : (key : LogKey) (s : State) (integration : Integration) → HasLogged key labels s → HasLogged key labels (notify_if_due at group ms s integration)
-  unfolding notify_if_due
-  notify_leaves key s integration has =
-      elim (needs_update (get s.log (key_at s integration)) firing resolved integration.send_resolved at (repeat_interval_of s.config group.route))
-      as (λ b. HasLogged key labels (if b then record_notification at group (key_at s integration) integration.send_resolved ms s else s)) [
-        | true ↦ logs_at s (key_at s integration) integration.send_resolved key (eq_by_cmp log_key_cmp key (key_at s integration)) refl has
-        | false ↦ has
-      ]
+  notify_leaves key = notify_holds (HasLogged key labels) at group ms
+      (λ s integration has. logs_at s (key_at s integration) integration.send_resolved key (eq_by_cmp log_key_cmp key (key_at s integration)) refl has)
 
   each_logs : (integrations : List Integration) (s : State) (integration : Integration) → Contains integrations integration
       → HasLogged (key_at s integration) labels (fold (notify_if_due at group ms) s integrations)
@@ -148,7 +138,7 @@ module _ (at : Moment) (group : RouteLabels) (member : LabelSet × Alert) (fires
   pipeline_logs [] s integration listed unmuted of = absurd (none_listed member listed)
   pipeline_logs (m ∷ ms) s integration listed unmuted of =
       let through : Members = let_through s at group.route (m ∷ ms) in
-      drop_holds (HasLogged (log_key_of s.config group integration) member.0) (λ group at s has. has) (λ group s member has. has) at group (m ∷ ms) (notify_receiver at group through s)
+      drop_holds (HasLogged (log_key_of s.config group integration) member.0) group (λ change s has. has) (λ s member has. has) at (m ∷ ms) (notify_receiver at group through s)
       (notify_receiver_logs through s integration (listed_filter (λ other. is_none (taken_away s at group.route other.0)) (m ∷ ms) member (ap is_none unmuted) listed) of)
 
   flush_logs : (s : State) (integration : Integration) → Contains (members s group) member → taken_away s at group.route member.0 ≡ None → Contains (integrations_of s.config group.route) integration

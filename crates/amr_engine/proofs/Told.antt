@@ -5,39 +5,31 @@ use Rattle.std.specs.List.{fold, Contains}
 use Rattle.std.specs.Ordering.{eq_by_cmp}
 use Rattle.std.proofs.Common.{refl, sym, ap, ◌∙◌, subst}
 use Rattle.std.proofs.lemmas.List.Elements.{Contains-append_left, Contains-append_right}
+use Rattle.std.proofs.lemmas.Map.Views.{tells_apart}
 use Rattle.amr_labels.specs.Map.{get, entries, empty, get-empty, get-insert}
 use Rattle.amr_labels.specs.Set.{contains}
 use Rattle.amr_labels.specs.Labels.{LabelSet}
 use Rattle.amr_time.specs.Time.{Moment}
-use Rattle.amr_config.specs.declared.stated.receiver.Integration.{Integration}
 use Rattle.amr_config.specs.Stated.Config.{Config}
-use Rattle.amr_config.specs.Routing.{chosen_routes, integrations_of, repeat_interval_of}
+use Rattle.amr_config.specs.Routing.{chosen_routes}
 use Rattle.amr_rules.specs.declared.alert.Alert.{Alert}
 use Rattle.amr_rules.specs.declared.dedup.LogEntry.{LogEntry}
-use Rattle.amr_rules.specs.Dedup.{needs_update}
 use Rattle.amr_rules.specs.Silences.{after_post, after_expiry}
 use Rattle.amr_events.specs.Posts.Reasons.{Reason}
 use Rattle.amr_events.specs.Actions.Events.{Event, Act}
 use Rattle.amr_engine.specs.State.Dues.{Due}
-use Rattle.amr_engine.specs.declared.state.due.Kind.{Kind}
-use Rattle.amr_engine.specs.declared.state.due.Kind.TheVariants.{AlertRemoval, GroupRemoval, GroupFlush}
 use Rattle.amr_engine.specs.declared.state.notification.LogKey.{LogKey}
 use Rattle.amr_engine.specs.declared.state.notification.Notification.{Notification}
 use Rattle.amr_config.specs.declared.route_labels.RouteLabels.{RouteLabels}
-use Rattle.amr_config.specs.RouteLabels.{on_route}
-use Rattle.amr_engine.specs.State.State.{State, start, log_key_cmp, log_key_cmp_total, log_key_cmp-IsAntisymmetric, members, insert_into_groups, insert_into_group}
-use Rattle.amr_engine.specs.Flush.{Members, firing_of, resolved_of, labels_of, log_key_of, let_through, notified_firing, notified_resolved, notifications_of, record_notification, notify_if_due, notify_receiver, drop_member, mark_if_empty, drop_resolved, run_pipeline, flush}
-use Rattle.amr_engine.specs.Moves.{move, move_of_kind, Advances}
+use Rattle.amr_engine.specs.State.State.{State, start, log_key_cmp, log_key_cmp_total, log_key_cmp-IsAntisymmetric, insert_into_groups, insert_into_group}
+use Rattle.amr_engine.specs.Flush.{Members, firing_of, resolved_of, labels_of, log_key_of, notified_firing, notified_resolved, notifications_of, record_notification}
+use Rattle.amr_engine.specs.Moves.{move, Advances}
 use Rattle.amr_engine.specs.Events.{put, put_all, valid_alerts, with_config, with_silences, on_ok, after_act, run_of}
 use Rattle.amr_engine.specs.Told.{HasNotification, LogIsNotified, after_moves}
-use Rattle.amr_engine.proofs.QuietStays.{equal}
 use Rattle.amr_engine.proofs.Invariant.{holds_after_run, holds_between}
+use Rattle.amr_engine.proofs.MovesKeep.{fold_holds}
+use Rattle.amr_engine.proofs.MovesKeep as moves
 use Rattle.amr_engine.proofs.Listed.{none_listed, listed_first, listed_in_set}
-
--- what each step keeps holds after all of them
-pub fold_holds : {A : Type 0} (P : State → Type 0) (f : State → A → State) → ((s : State) (a : A) → P s → P (f s a)) → (items : List A) (s : State) → P s → P (fold f s items)
-fold_holds P f step [] s holds = holds
-fold_holds P f step (a ∷ items) s holds = fold_holds P f step items (f s a) (step s a holds)
 
 -- ---- the notification of an entry
 
@@ -89,7 +81,7 @@ module _ (at : Moment) (group : RouteLabels) (key : LogKey) (send_resolved : Boo
         → cond b (Some written) (get s.log asked) ≡ Some entry → contains entry.firing labels ≡ true → HasNotification (s.notes ++ appended) entry.time asked labels
     recorded_entry holds asked entry labels true same logged fires =
         let is : written ≡ entry = cc in
-        let asked_is : key ≡ asked = sym (log_key_cmp-IsAntisymmetric asked key (equal (log_key_cmp asked key) same)) in
+        let asked_is : key ≡ asked = sym (tells_apart log_key_cmp-IsAntisymmetric asked key same) in
         subst (λ (x : LogEntry × LogKey). HasNotification (s.notes ++ appended) x.0.time x.1 labels) (λ i. (is i, asked_is i))
         (notified_now at key labels s.notes appended (has_fired (firing_of at ms) (resolved_of at ms) labels (ap (λ (x : LogEntry). contains x.firing labels) is ∙ fires)))
     recorded_entry holds asked entry labels false other logged fires = notified_before entry.time asked labels s.notes appended (holds asked entry labels logged fires)
@@ -98,51 +90,11 @@ module _ (at : Moment) (group : RouteLabels) (key : LogKey) (send_resolved : Boo
     recorded holds = λ asked entry labels logged fires.
         recorded_entry holds asked entry labels (eq_by_cmp log_key_cmp asked key) refl (sym (get-insert log_key_cmp_total s.log key written asked) ∙ logged) fires
 
--- ---- a flush
-
-notify_holds : (at : Moment) (group : RouteLabels) (ms : Members) (s : State) (integration : Integration) → LogIsNotified s → LogIsNotified (notify_if_due at group ms s integration)
-unfolding notify_if_due
-notify_holds at group ms s integration holds =
-    elim (needs_update (get s.log (log_key_of s.config group integration)) (labels_of (firing_of at ms)) (labels_of (resolved_of at ms)) integration.send_resolved at (repeat_interval_of s.config group.route))
-    as (λ b. LogIsNotified (if b then record_notification at group (log_key_of s.config group integration) integration.send_resolved ms s else s)) [
-      | true ↦ recorded at group (log_key_of s.config group integration) integration.send_resolved ms s holds
-      | false ↦ holds
-    ]
-
-notify_receiver_holds : (at : Moment) (group : RouteLabels) (ms : Members) (s : State) → LogIsNotified s → LogIsNotified (notify_receiver at group ms s)
-notify_receiver_holds at group [] s holds = holds
-notify_receiver_holds at group (m ∷ ms) s holds = fold_holds LogIsNotified (notify_if_due at group (m ∷ ms)) (notify_holds at group (m ∷ ms)) (integrations_of s.config group.route) s holds
-
--- what group timers and members leaving don't change holds after they leave
-module _ (P : State → Type 0) (timed : (group : RouteLabels) (at : Moment) (s : State) → P s → P (mark_if_empty at group [] s))
-    (dropped : (group : RouteLabels) (s : State) (member : LabelSet × Alert) → P s → P (drop_member group s member)) where
-  mark_holds : (at : Moment) (group : RouteLabels) (ms : Members) (s : State) → P s → P (mark_if_empty at group ms s)
-  mark_holds at group [] s holds = timed group at s holds
-  mark_holds at group (m ∷ ms) s holds = holds
-
-  pub drop_holds : (at : Moment) (group : RouteLabels) (ms : Members) (s : State) → P s → P (drop_resolved at group ms s)
-  unfolding drop_resolved
-  drop_holds at group ms s holds =
-      mark_holds at group (firing_of at ms) (fold (drop_member group) s (resolved_of at ms)) (fold_holds P (drop_member group) (dropped group) (resolved_of at ms) s holds)
-
-pipeline_holds : (at : Moment) (group : RouteLabels) (ms : Members) (s : State) → LogIsNotified s → LogIsNotified (run_pipeline at group ms s)
-pipeline_holds at group [] s holds = holds
-pipeline_holds at group (m ∷ ms) s holds =
-    let through : Members = let_through s at group.route (m ∷ ms) in
-    drop_holds LogIsNotified (λ group at s holds. holds) (λ group s member holds. holds) at group (m ∷ ms) (notify_receiver at group through s) (notify_receiver_holds at group through s holds)
-
-flush_holds : (at : Moment) (group : RouteLabels) (s : State) → LogIsNotified s → LogIsNotified (flush at group s)
-unfolding flush
-flush_holds at group s holds = pipeline_holds at group (members s group) _ holds
-
-kind_holds : (kind : Kind) (due : Due) (s : State) → LogIsNotified s → LogIsNotified (move_of_kind kind due s)
-kind_holds AlertRemoval due s holds = holds
-kind_holds GroupRemoval due s holds = holds
-kind_holds GroupFlush due s holds = flush_holds due.moment (on_route due.route due.labels) s holds
-
 pub move_holds : (due : Due) (s : State) → LogIsNotified s → LogIsNotified (move due s)
-unfolding move
-move_holds due s holds = kind_holds due.kind due s holds
+move_holds = moves.move_holds LogIsNotified
+    (λ group. moves.flush_holds LogIsNotified group (λ change s holds. holds) (λ s member holds. holds)
+    (λ at ms s integration. recorded at group (log_key_of s.config group integration) integration.send_resolved ms s))
+    (λ due s holds. holds) (λ due s holds. holds)
 
 -- ---- an action
 

@@ -35,6 +35,72 @@ on_ok-twice : {A B C : Type 0} (f : B → C) (g : A → B) (r : Result A Reason)
 on_ok-twice f g (Ok x) = refl
 on_ok-twice f g (Err e) = refl
 
+-- Moves read neither the clock nor the notifications.
+module _ (clock : Moment → Moment) (earlier : List Notification) where
+  -- the state with another clock, and with earlier notifications before its own
+  abbrev beside : State → State
+  beside s = record s { moment = clock s.moment; notes = earlier ++ s.notes }
+
+  fold_beside : {A : Type 0} (f : State → A → State) → ((s : State) (a : A) → f (beside s) a ≡ beside (f s a)) → (xs : List A) (s : State) → fold f (beside s) xs ≡ beside (fold f s xs)
+  fold_beside f same [] s = refl
+  fold_beside f same (x ∷ xs) s = ap (λ (y : State). fold f y xs) (same s x) ∙ fold_beside f same xs (f s x)
+
+  chosen_beside : (b : Bool) (x y z : State) → x ≡ beside y → (if b then x else beside z) ≡ beside (if b then y else z)
+  chosen_beside true x y z e = e
+  chosen_beside false x y z e = refl
+
+  -- ---- a flush
+
+  recorded_beside : (at : Moment) (group : RouteLabels) (key : LogKey) (send_resolved : Bool) (ms : Members) (s : State)
+      → record_notification at group key send_resolved ms (beside s) ≡ beside (record_notification at group key send_resolved ms s)
+  recorded_beside at group key send_resolved ms s = λ i. record (record_notification at group key send_resolved ms s) { moment = clock s.moment; notes = append_assoc earlier s.notes (notifications_of at group key send_resolved (firing_of at ms) (resolved_of at ms)) i }
+
+  notify_beside : (at : Moment) (group : RouteLabels) (ms : Members) (s : State) (i : Integration) → notify_if_due at group ms (beside s) i ≡ beside (notify_if_due at group ms s i)
+  unfolding notify_if_due
+  notify_beside at group ms s i =
+      let key : LogKey = log_key_of s.config group i in
+      chosen_beside _ (record_notification at group key i.send_resolved ms (beside s)) (record_notification at group key i.send_resolved ms s) s (recorded_beside at group key i.send_resolved ms s)
+
+  notify_receiver_beside : (at : Moment) (group : RouteLabels) (ms : Members) (s : State) → notify_receiver at group ms (beside s) ≡ beside (notify_receiver at group ms s)
+  notify_receiver_beside at group [] s = refl
+  notify_receiver_beside at group (m ∷ ms) s = fold_beside (notify_if_due at group (m ∷ ms)) (notify_beside at group (m ∷ ms)) (integrations_of s.config group.route) s
+
+  mark_beside : (at : Moment) (group : RouteLabels) (ms : Members) (s : State) → mark_if_empty at group ms (beside s) ≡ beside (mark_if_empty at group ms s)
+  mark_beside at group [] s = refl
+  mark_beside at group (m ∷ ms) s = refl
+
+  drop_beside : (at : Moment) (group : RouteLabels) (ms : Members) (s : State) → drop_resolved at group ms (beside s) ≡ beside (drop_resolved at group ms s)
+  unfolding drop_resolved
+  drop_beside at group ms s =
+      ap (mark_if_empty at group (firing_of at ms)) (fold_beside (drop_member group) (λ _ _. refl) (resolved_of at ms) s)
+      ∙ mark_beside at group (firing_of at ms) (fold (drop_member group) s (resolved_of at ms))
+
+  pipeline_beside : (at : Moment) (group : RouteLabels) (ms : Members) (s : State) → run_pipeline at group ms (beside s) ≡ beside (run_pipeline at group ms s)
+  unfolding taken_away
+  pipeline_beside at group [] s = refl
+  pipeline_beside at group (m ∷ ms) s =
+      ap (drop_resolved at group (m ∷ ms)) (notify_receiver_beside at group (let_through s at group.route (m ∷ ms)) s)
+      ∙ drop_beside at group (m ∷ ms) (notify_receiver at group (let_through s at group.route (m ∷ ms)) s)
+
+  flush_beside : (at : Moment) (group : RouteLabels) (s : State) → flush at group (beside s) ≡ beside (flush at group s)
+  unfolding flush members
+  flush_beside at group s = pipeline_beside at group (members s group) _
+
+  -- ---- the moves
+
+  kind_beside : (kind : Kind) (d : Due) (s : State) → move_of_kind kind d (beside s) ≡ beside (move_of_kind kind d s)
+  kind_beside AlertRemoval d s = refl
+  kind_beside GroupRemoval d s = refl
+  kind_beside GroupFlush d s = flush_beside d.moment (on_route d.route d.labels) s
+
+  pub move_beside : (d : Due) (s : State) → move d (beside s) ≡ beside (move d s)
+  unfolding move
+  move_beside d s = kind_beside d.kind d s
+
+  pub next_due_beside : (at : Moment) (s : State) → next_due at (beside s) ≡ next_due at s
+  unfolding next_due dues
+  next_due_beside at s = refl
+
 module _ (earlier : List Notification) where
   -- the state with earlier notifications before its own
   abbrev after : State → State
@@ -43,78 +109,18 @@ module _ (earlier : List Notification) where
   abbrev after_moves : List Due × State → List Due × State
   after_moves r = (r.0, after r.1)
 
-  fold_after : {A : Type 0} (f : State → A → State) → ((s : State) (a : A) → f (after s) a ≡ after (f s a)) → (xs : List A) (s : State) → fold f (after s) xs ≡ after (fold f s xs)
-  fold_after f same [] s = refl
-  fold_after f same (x ∷ xs) s = ap (λ (y : State). fold f y xs) (same s x) ∙ fold_after f same xs (f s x)
-
-  chosen_after : (b : Bool) (x y z : State) → x ≡ after y → (if b then x else after z) ≡ after (if b then y else z)
-  chosen_after true x y z e = e
-  chosen_after false x y z e = refl
-
-  -- ---- a flush
-
-  recorded_after : (at : Moment) (group : RouteLabels) (key : LogKey) (send_resolved : Bool) (ms : Members) (s : State)
-      → record_notification at group key send_resolved ms (after s) ≡ after (record_notification at group key send_resolved ms s)
-  recorded_after at group key send_resolved ms s = λ i. record (record_notification at group key send_resolved ms s) { notes = append_assoc earlier s.notes (notifications_of at group key send_resolved (firing_of at ms) (resolved_of at ms)) i }
-
-  notify_after : (at : Moment) (group : RouteLabels) (ms : Members) (s : State) (i : Integration) → notify_if_due at group ms (after s) i ≡ after (notify_if_due at group ms s i)
-  unfolding notify_if_due
-  notify_after at group ms s i =
-      let key : LogKey = log_key_of s.config group i in
-      chosen_after _ (record_notification at group key i.send_resolved ms (after s)) (record_notification at group key i.send_resolved ms s) s (recorded_after at group key i.send_resolved ms s)
-
-  notify_receiver_after : (at : Moment) (group : RouteLabels) (ms : Members) (s : State) → notify_receiver at group ms (after s) ≡ after (notify_receiver at group ms s)
-  notify_receiver_after at group [] s = refl
-  notify_receiver_after at group (m ∷ ms) s = fold_after (notify_if_due at group (m ∷ ms)) (notify_after at group (m ∷ ms)) (integrations_of s.config group.route) s
-
-  mark_after : (at : Moment) (group : RouteLabels) (ms : Members) (s : State) → mark_if_empty at group ms (after s) ≡ after (mark_if_empty at group ms s)
-  mark_after at group [] s = refl
-  mark_after at group (m ∷ ms) s = refl
-
-  drop_after : (at : Moment) (group : RouteLabels) (ms : Members) (s : State) → drop_resolved at group ms (after s) ≡ after (drop_resolved at group ms s)
-  unfolding drop_resolved
-  drop_after at group ms s =
-      ap (mark_if_empty at group (firing_of at ms)) (fold_after (drop_member group) (λ _ _. refl) (resolved_of at ms) s)
-      ∙ mark_after at group (firing_of at ms) (fold (drop_member group) s (resolved_of at ms))
-
-  pipeline_after : (at : Moment) (group : RouteLabels) (ms : Members) (s : State) → run_pipeline at group ms (after s) ≡ after (run_pipeline at group ms s)
-  unfolding taken_away
-  pipeline_after at group [] s = refl
-  pipeline_after at group (m ∷ ms) s =
-      ap (drop_resolved at group (m ∷ ms)) (notify_receiver_after at group (let_through s at group.route (m ∷ ms)) s)
-      ∙ drop_after at group (m ∷ ms) (notify_receiver at group (let_through s at group.route (m ∷ ms)) s)
-
-  flush_after : (at : Moment) (group : RouteLabels) (s : State) → flush at group (after s) ≡ after (flush at group s)
-  unfolding flush members
-  flush_after at group s = pipeline_after at group (members s group) _
-
-  -- ---- the moves
-
-  kind_after : (kind : Kind) (d : Due) (s : State) → move_of_kind kind d (after s) ≡ after (move_of_kind kind d s)
-  kind_after AlertRemoval d s = refl
-  kind_after GroupRemoval d s = refl
-  kind_after GroupFlush d s = flush_after d.moment (on_route d.route d.labels) s
-
-  move_after : (d : Due) (s : State) → move d (after s) ≡ after (move d s)
-  unfolding move
-  move_after d s = kind_after d.kind d s
-
-  next_due_after : (at : Moment) (s : State) → next_due at (after s) ≡ next_due at s
-  unfolding next_due dues
-  next_due_after at s = refl
-
   after_step_after : (d : Due) (o : Option (List Due × State)) → option_map (run.after_step (next_due 0) move d) (option_map after_moves o) ≡ option_map after_moves (option_map (run.after_step (next_due 0) move d) o)
   after_step_after d None = refl
   after_step_after d (Some r) = refl
 
   advance_after : (limit : ℕ) (at : Moment) (s : State) → advance limit at (after s) ≡ option_map after_moves (advance limit at s)
-  advance_after zero at s = ap (λ (o : Option Due). option_map_or (λ d. None) o (Some ([], after s))) (next_due_after at s) ∙ last (next_due at s)
+  advance_after zero at s = ap (λ (o : Option Due). option_map_or (λ d. None) o (Some ([], after s))) (next_due_beside (λ m. m) earlier at s) ∙ last (next_due at s)
     where
       last : (o : Option Due) → option_map_or (λ d. None) o (Some ([], after s)) ≡ option_map after_moves (option_map_or (λ d. None) o (Some ([], s)))
       last None = refl
       last (Some d) = refl
   advance_after (suc limit) at s =
-      ap (λ (o : Option Due). option_map_or (λ d. option_map (run.after_step (next_due at) move d) (advance limit at (move d (after s)))) o (Some ([], after s))) (next_due_after at s)
+      ap (λ (o : Option Due). option_map_or (λ d. option_map (run.after_step (next_due at) move d) (advance limit at (move d (after s)))) o (Some ([], after s))) (next_due_beside (λ m. m) earlier at s)
       ∙ more (next_due at s) (λ d. advance_after limit at (move d s))
     where
       more : (o : Option Due) → ((d : Due) → advance limit at (after (move d s)) ≡ option_map after_moves (advance limit at (move d s)))
@@ -122,7 +128,7 @@ module _ (earlier : List Notification) where
           ≡ option_map after_moves (option_map_or (λ d. option_map (run.after_step (next_due at) move d) (advance limit at (move d s))) o (Some ([], s)))
       more None rest = refl
       more (Some d) rest =
-          ap (λ (x : State). option_map (run.after_step (next_due at) move d) (advance limit at x)) (move_after d s)
+          ap (λ (x : State). option_map (run.after_step (next_due at) move d) (advance limit at x)) (move_beside (λ m. m) earlier d s)
           ∙ ap (option_map (run.after_step (next_due at) move d)) (rest d)
           ∙ after_step_after d (advance limit at (move d s))
 
@@ -130,7 +136,7 @@ module _ (earlier : List Notification) where
 
   inserted_after : (s : State) (alert : LabelSet × Alert) → insert_into_groups (after s) alert ≡ after (insert_into_groups s alert)
   unfolding insert_into_groups
-  inserted_after s alert = fold_after (insert_into_group alert.0 alert.1) (λ _ _. refl) (chosen_routes s.config alert.0) s
+  inserted_after s alert = fold_beside (λ m. m) earlier (insert_into_group alert.0 alert.1) (λ _ _. refl) (chosen_routes s.config alert.0) s
 
   put_after : (s : State) (alert : LabelSet × Alert) → put (after s) alert ≡ after (put s alert)
   unfolding put
@@ -138,11 +144,11 @@ module _ (earlier : List Notification) where
 
   put_all_after : (s : State) (alerts : List (LabelSet × Alert)) → put_all (after s) alerts ≡ on_ok after (put_all s alerts)
   put_all_after s [] = refl
-  put_all_after s (alert ∷ alerts) = ap (λ (x : State). Ok x) (fold_after put put_after (alert ∷ alerts) s)
+  put_all_after s (alert ∷ alerts) = ap (λ (x : State). Ok x) (fold_beside (λ m. m) earlier put put_after (alert ∷ alerts) s)
 
   with_config_after : (s : State) (config : Config) → with_config (after s) config ≡ after (with_config s config)
   unfolding with_config
-  with_config_after s config = fold_after insert_into_groups inserted_after (entries s.alerts) (record s { config = config; placements = empty; timers = empty })
+  with_config_after s config = fold_beside (λ m. m) earlier insert_into_groups inserted_after (entries s.alerts) (record s { config = config; placements = empty; timers = empty })
 
   reloaded_after : (s : State) (config : Result Config Reason) → on_ok (with_config (after s)) config ≡ on_ok after (on_ok (with_config s) config)
   reloaded_after s (Ok config) = ap (λ (x : State). Ok x) (with_config_after s config)
@@ -200,11 +206,7 @@ done_whole s event = ap (λ (x : State). do_event x event) (sym (whole s)) ∙ d
 
 skipped_same : (s : State) (act : Act) → skipped_of (without_notifications s) act ≡ skipped_of s act
 skipped_same s (Act.Post posted) = refl
-skipped_same s (Act.Silence posted) = refl
-skipped_same s (Act.Expire id) = refl
-skipped_same s (Act.Reload config) = refl
-skipped_same s Act.Tick = refl
-skipped_same s (Act.Label text) = refl
+skipped_same s act = refl
 
 outcome_same : (s : State) (event : Event) (r : Result (List Due × State) Reason) → outcome_from (without_notifications s) event r ≡ outcome_from s event (on_ok (after_moves s.notes) r)
 outcome_same s event (Err e) = refl

@@ -15,6 +15,7 @@ use Rattle.std.specs.Ordering.{is_eq, nat_cmp}
 use Rattle.std.specs.declared.cmp.Ordering.{Ordering}
 use Rattle.std.specs.Cmp.{nat_cmp_total, tied_itself}
 use Rattle.std.specs.FinMap.{nat_cmp-IsAntisymmetric}
+use Rattle.std.proofs.lemmas.Bool.{true≢false}
 use Rattle.amr_labels.specs.Map.{entries, empty, from_sorted, entries-from_sorted, same_entries_map, get, set, retain_keys, entries-retain_keys, get-set, get-retain_keys, same_map}
 use Rattle.amr_labels.specs.Labels.{LabelSet}
 use Rattle.amr_labels.specs.Matcher.ValueBits.{value_bits}
@@ -29,13 +30,10 @@ use Rattle.amr_engine.specs.declared.indexes.cached_periods.CachedPeriods.{Cache
 use Rattle.amr_engine.specs.declared.indexes.silence_change.SilenceChange.{SilenceChange}
 use Rattle.amr_engine.specs.Indexes.CachedSilences.{periods_picked, PicksNone, change_of, changed_ids, AreNoted, IsCached, AreCached, SameOthers}
 
-apart_bools : {A : Type 0} → true ≡ false → A
-apart_bools e = absurd (cc e)
-
 none_before_zero : (i : ℕ) → i < 0 → ⊥
 none_before_zero i lt = omega arith
 
-same_number : (a b : ℕ) → (a == b) ≡ true → a ≡ b
+pub same_number : (a b : ℕ) → (a == b) ≡ true → a ≡ b
 same_number a b same = grind (arith, nat_tests)
 
 not_last : (i n : ℕ) → (i == n) ≡ false → i < n + 1 → i < n
@@ -70,7 +68,7 @@ same_picked : (test : ℕ → Bool) (from : Moment) (labels : LabelSet) (id : �
 same_picked test from labels id old changed same unpicked =
     let alike : (q x : ℕ) → nat_cmp q x ≡ Equal → test x ≡ test q = λ q x tie. ap test (sym (nat_cmp-IsAntisymmetric q x tie)) in
     let kept : retain_keys old test ≡ retain_keys changed test = same_map nat_cmp_total nat_cmp-IsAntisymmetric _ _ (λ q.
-    get-retain_keys nat_cmp_total old test q (alike q) ∙ same_kept (test q) (get old q) (get changed q) (λ picks. sym (same q (λ e. apart_bools (sym picks ∙ ap test e ∙ unpicked))))
+    get-retain_keys nat_cmp_total old test q (alike q) ∙ same_kept (test q) (get old q) (get changed q) (λ picks. sym (same q (λ e. true≢false (sym picks ∙ ap test e ∙ unpicked))))
     ∙ sym (get-retain_keys nat_cmp_total changed test q (alike q))) in
     picked_periods test from labels old ∙ ap (silence_periods from labels) kept ∙ sym (picked_periods test from labels changed)
 
@@ -151,7 +149,7 @@ noted_more old changed changes change same own was =
                 ap test (sym (get_or-append (changed_ids changes) (change.id ∷ []) 0 k lt_k) ∙ ap (λ (l : List ℕ). get_or l k 0) (sym ids)) ∙ none k le (omega arith) in
                 let unpicked : test change.id ≡ false =
                 ap test (sym (id_at (changes ++ change ∷ []) (length changes) change (omega arith) (get_or-append_seam changes change [] change))) ∙ none (length changes) (omega arith) (omega arith) in
-                let other : get changed one.id ≡ get old one.id = same one.id (λ e. apart_bools (sym picks ∙ ap test e ∙ unpicked)) in
+                let other : get changed one.id ≡ get old one.id = same one.id (λ e. true≢false (sym picks ∙ ap test e ∙ unpicked)) in
                 was.latest i one test before there picks none_before ∙ ap (change_of one.id) (sym other)
           ] refl;
     }

@@ -12,6 +12,8 @@ use Rattle.std.proofs.lemmas.Bool.Decides.{nat_tests}
 use Rattle.std.proofs.lemmas.List.{length-map, length-drop, get_or-drop, get_or_default}
 use Rattle.std.proofs.lemmas.List.Sums.{prefix_len-le-length, prefix_len_passes}
 use Rattle.std.proofs.lemmas.List.Elements.{filter-append}
+use Rattle.std.proofs.Math.Bool.{and_comm, and-false, and-true}
+use Rattle.std.proofs.lemmas.Bool.{not-true}
 use Rattle.amr_labels.specs.Map.{entries, get, entries-sorted, get-entries}
 use Rattle.amr_labels.specs.Labels.{LabelSet}
 use Rattle.amr_labels.proofs.Sorted.{both, first, second, less}
@@ -26,7 +28,8 @@ use Rattle.amr_rules.specs.SilencePeriods.{may_silence, period_of, silence_perio
 use Rattle.amr_engine.specs.declared.indexes.cached_periods.CachedPeriods.{CachedPeriods}
 use Rattle.amr_engine.specs.declared.indexes.silence_change.SilenceChange.{SilenceChange}
 use Rattle.amr_engine.specs.Indexes.CachedSilences.{lists, periods_picked, PicksNone, is_below, is_above, ends_after, without_silence, with_period, with_silence_noted, period_from, change_of, may_concern, is_idle, next_concern, passed_by, changed_ids, AreNoted, IsCached}
-use Rattle.amr_engine.proofs.IndexesLemmas.CachedSilences.{filters_swap, id_at}
+use Rattle.amr_engine.proofs.IndexesLemmas.CachedSilences.{filters_swap, id_at, same_number}
+use Rattle.amr_engine.proofs.Listed.{none_left}
 
 -- ---- two tests, one after the other
 
@@ -42,12 +45,6 @@ filter_same f g same xs = λ i. filter (λ x. same x i) xs
 
 filters_alike : {X : Type 0} (f g h k : X → Bool) → ((x : X) → (g x && f x) ≡ (k x && h x)) → (xs : List X) → filter f (filter g xs) ≡ filter h (filter k xs)
 filters_alike f g h k same xs = filter_both f g xs ∙ filter_same (λ x. g x && f x) (λ x. k x && h x) same xs ∙ sym (filter_both h k xs)
-
-and_turned : (a b : Bool) → (a && b) ≡ (b && a)
-and_turned true true = refl
-and_turned true false = refl
-and_turned false true = refl
-and_turned false false = refl
 
 -- ---- the periods that a test picks, when one silence has another period
 
@@ -95,7 +92,7 @@ picked_without : (test : ℕ → Bool) (id : ℕ) (periods : List SilencePeriod)
 picked_without test id periods =
     filter_both (λ (p : SilencePeriod). test p.id) (λ (p : SilencePeriod). not (eq_by_cmp nat_cmp id p.id)) periods
     ∙ filter_same (λ (p : SilencePeriod). not (eq_by_cmp nat_cmp id p.id) && test p.id) (λ (p : SilencePeriod). but_one test id p.id)
-    (λ p. and_turned (not (eq_by_cmp nat_cmp id p.id)) (test p.id)) periods
+    (λ p. and_comm (not (eq_by_cmp nat_cmp id p.id)) (test p.id)) periods
 
 -- ---- the periods of the silences have that of each silence
 
@@ -217,23 +214,16 @@ noted_alike test id (Some p) a b same e =
     let there : periods_picked (but_one test p.id) a ≡ periods_picked (but_one test p.id) b = subst (λ (n : ℕ). periods_picked (but_one test n) a ≡ periods_picked (but_one test n) b) (sym (same p refl)) e in
     picked_with test p a ∙ ap (among test p) there ∙ sym (picked_with test p b)
 
-and_false : (b : Bool) → (b && false) ≡ false
-and_false true = refl
-and_false false = refl
-
 seen_or_later : (version i : ℕ) → version ≤ i → (version == i) ≡ false → version + 1 ≤ i
 seen_or_later version i le apart = grind (arith, nat_tests)
-
-is_seen : (version i : ℕ) → (version == i) ≡ true → version ≡ i
-is_seen version i same = grind (arith, nat_tests)
 
 -- a test that picks no silence that changed later picks but for this one none that changed
 later_picks : (changes : List ℕ) (version id : ℕ) (test : ℕ → Bool) → id ≡ get_or changes version 0 → PicksNone test changes (version + 1) → PicksNone (but_one test id) changes version
 later_picks changes version id test is_id none = λ i le lt.
     elim (version == i) as (λ b. (version == i) ≡ b → but_one test id (get_or changes i 0) ≡ false) [
       | true ↦ λ same.
-          let own : id ≡ get_or changes i 0 = is_id ∙ ap (λ (n : ℕ). get_or changes n 0) (is_seen version i same) in
-          ap (λ (n : ℕ). but_one test id n) (sym own) ∙ ap (λ (o : Ordering). test id && not (is_eq o)) (tied_itself nat_cmp_total id) ∙ and_false (test id)
+          let own : id ≡ get_or changes i 0 = is_id ∙ ap (λ (n : ℕ). get_or changes n 0) (same_number version i same) in
+          ap (λ (n : ℕ). but_one test id n) (sym own) ∙ ap (λ (o : Ordering). test id && not (is_eq o)) (tied_itself nat_cmp_total id) ∙ and-false (test id)
       | false ↦ λ apart. ap (λ (b : Bool). b && not (eq_by_cmp nat_cmp id (get_or changes i 0))) (none i (seen_or_later version i le apart) lt)
     ] refl
 
@@ -259,7 +249,7 @@ ended : (from ends : ℕ) → nat_lt from ends ≡ false → (not (nat_le ends f
 ended from ends over = grind (arith, nat_tests)
 
 not_both : (from ends : ℕ) (hold marked : Bool) → (hold ≡ true → marked ≡ true) → (marked && nat_lt from ends) ≡ false → (not (nat_le ends from) && hold) ≡ false
-not_both from ends false marked h e = and_false (not (nat_le ends from))
+not_both from ends false marked h e = and-false (not (nat_le ends from))
 not_both from ends true marked h e =
     ended from ends (ap (λ (b : Bool). b && nat_lt from ends) (sym (h refl)) ∙ e)
 
@@ -276,18 +266,14 @@ no_period from labels bits id (Some silence) marked passed =
     ap (λ (b : Bool). cond b (Some (period_of (id, silence))) None)
     (not_both from silence.ends_at (all_hold silence.matchers labels) (bit_or bits (required_bits silence.matchers) == bits) asked passed)
 
-and_true : (b : Bool) → (b && true) ≡ b
-and_true true = refl
-and_true false = refl
-
 but_none : (test : ℕ → Bool) (id : ℕ) (periods : List SilencePeriod) → test id ≡ false → periods_picked (but_one test id) periods ≡ periods_picked test periods
 but_none test id periods unpicked = filter_same (λ (p : SilencePeriod). but_one test id p.id) (λ (p : SilencePeriod). test p.id) (λ p.
     elim (nat_cmp id p.id) as (λ o. nat_cmp id p.id ≡ o → (test p.id && not (is_eq o)) ≡ test p.id) [
-      | Less ↦ λ is. and_true (test p.id)
+      | Less ↦ λ is. and-true (test p.id)
       | Equal ↦ λ is.
           let other : test p.id ≡ false = ap test (sym (nat_cmp-IsAntisymmetric id p.id is)) ∙ unpicked in
-          and_false (test p.id) ∙ sym other
-      | Greater ↦ λ is. and_true (test p.id)
+          and-false (test p.id) ∙ sym other
+      | Greater ↦ λ is. and-true (test p.id)
     ] refl) periods
 
 -- its period is left out, whether it changed again later or not
@@ -318,16 +304,6 @@ passed_over silences changes found change after noted_so cached more is_change p
     })
 
 -- where there are no periods, all changes before the next that may concern the labels are passed over
-no_periods : {X : Type 0} (xs : List X) → (length xs == 0) ≡ true → xs ≡ []
-no_periods [] e = refl
-no_periods (x ∷ xs) e =
-    let long : length (x ∷ xs) ≡ 0 = is_seen (length (x ∷ xs)) 0 e in
-    absurd (omega arith)
-
-is_passed : (b : Bool) → not b ≡ true → b ≡ false
-is_passed true e = sym e
-is_passed false e = refl
-
 passed_some : (silences : Silences) (changes : List SilenceChange) (found : CachedPeriods) (n : ℕ) → AreNoted silences changes → IsCached silences (changed_ids changes) found → found.periods ≡ []
     → n ≤ prefix_len (is_idle found.from found.bits) (drop found.version changes) → IsCached silences (changed_ids changes) (record found { version = found.version + n })
 passed_some silences changes found zero noted_so cached none le =
@@ -346,7 +322,7 @@ passed_some silences changes found (suc n) noted_so cached none le =
     let kept : found.periods ≡ without_silence change.id found.periods = none ∙ sym (ap (without_silence change.id) none) in
     let step : found.version + suc n ≡ found.version + n + 1 = omega arith in
     passed_over silences changes (record found { version = found.version + n }) change (record found { version = found.version + suc n }) noted_so
-    (passed_some silences changes found n noted_so cached none (omega arith)) more is (is_passed (may_concern found.from found.bits change) passes) (λ i. record found { version = step i; periods = kept i })
+    (passed_some silences changes found n noted_so cached none (omega arith)) more is (not-true (may_concern found.from found.bits change) passes) (λ i. record found { version = step i; periods = kept i })
 
 pub passed_on : (changes : List SilenceChange) (found : CachedPeriods) → found.version ≤ (passed_by changes found).version
 passed_on changes found =
@@ -361,7 +337,7 @@ all_passed silences changes found after noted_so cached is =
     subst (λ (k : CachedPeriods). IsCached silences (changed_ids changes) k) (sym is)
     (elim (length found.periods == 0) as (λ b. (length found.periods == 0) ≡ b
     → IsCached silences (changed_ids changes) (record found { version = cond b (next_concern found.from found.bits changes found.version) found.version })) [
-      | true ↦ λ empty. passed_some silences changes found (prefix_len (is_idle found.from found.bits) (drop found.version changes)) noted_so cached (no_periods found.periods empty) (omega arith)
+      | true ↦ λ empty. passed_some silences changes found (prefix_len (is_idle found.from found.bits) (drop found.version changes)) noted_so cached (none_left found.periods empty) (omega arith)
       | false ↦ λ some. cached
     ] refl)
 
@@ -400,7 +376,7 @@ pub left_out : (silences : Silences) (changes : List ℕ) (found after : CachedP
     → after ≡ record found { from = at; periods = filter (ends_after at) found.periods } → IsCached silences changes after
 left_out silences changes found after at cached le is =
     let swap : (test : ℕ → Bool) (periods : List SilencePeriod) → periods_picked test (filter (ends_after at) periods) ≡ filter (ends_after at) (periods_picked test periods) = λ test periods.
-    filters_alike (λ (p : SilencePeriod). test p.id) (ends_after at) (ends_after at) (λ (p : SilencePeriod). test p.id) (λ p. and_turned (ends_after at p) (test p.id)) periods in
+    filters_alike (λ (p : SilencePeriod). test p.id) (ends_after at) (ends_after at) (λ (p : SilencePeriod). test p.id) (λ p. and_comm (ends_after at p) (test p.id)) periods in
     subst (λ (k : CachedPeriods). IsCached silences changes k) (sym is) (record {
       version = cached.version;
       bits = cached.bits;

@@ -3,17 +3,16 @@ use Rattle.std.proofs.Common.{◌≡◌, ℕ, ◌+◌, ◌<◌, ◌≤◌, Bool,
 use Rattle.std.specs.Prelude.{◌==◌, bit_or, Result, Ok, Err, OnOk, OnErr, option_map, unwrap_or}
 use Rattle.std.proofs.Math.ListN.{get_or}
 use Rattle.std.specs.List.{cons_option, filter_map}
-use Rattle.std.specs.declared.cmp.Ordering.{Ordering}
-use Rattle.std.specs.declared.cmp.Ordering.TheVariants.{Less, Equal, Greater}
-use Rattle.std.specs.Ordering.{eq_by_cmp, is_eq, is_lt, ordering_then}
-use Rattle.std.specs.Cmp.{eq_by_cmp_equiv}
+use Rattle.std.specs.Ordering.{eq_by_cmp, is_lt}
+use Rattle.std.specs.Cmp.{eq_by_cmp_equiv, tied_then}
 use Rattle.std.specs.FinMap.{find, is_sorted}
 use Rattle.std.specs.FinMap.Entries.{below_all, find-where_key, is_sorted-where_key, same_entries}
-use Rattle.std.proofs.lemmas.Bool.{true≢false}
 use Rattle.std.proofs.lemmas.Bool.Decides.{nat_tests}
 use Rattle.std.proofs.lemmas.List.{take_all, nil_from_length, get_or-map}
 use Rattle.std.proofs.lemmas.List.Folds.{list_any_more}
 use Rattle.std.proofs.lemmas.Map.Views.{tells_apart}
+use Rattle.amr_engine.proofs.StateLemmas.Undoing.{twice}
+use Rattle.amr_labels.proofs.Sorted.{both, first, second}
 use Rattle.amr_labels.specs.Map.{get, set, insert, empty, entries, from_sorted, if_sorted, get-empty, get-insert, get-set, get-entries, entries-sorted}
 use Rattle.amr_labels.specs.Set.{Set, contains, items}
 use Rattle.amr_labels.specs.Labels.{Text, text_cmp, LabelSet, label_set_cmp, label_set_cmp_total, label_set_cmp-IsAntisymmetric, value_of}
@@ -30,24 +29,6 @@ use Rattle.amr_engine.specs.declared.indexes.rule_source.CachedSide.{CachedSide}
 use Rattle.amr_engine.specs.Indexes.LabelValues.{values_cmp, values_cmp_total, values_cmp-IsAntisymmetric, label_values}
 use Rattle.amr_engine.specs.Indexes.RuleSources.{ByValues, bits_of, is_in, is_under, is_source, ListsSide, IsSideOf, IsPut, IsListedToo, ListsSame, ListsAgreeing, stored_of}
 
-eq_then : (a b : Ordering) → is_eq (ordering_then a b) ≡ (is_eq a && is_eq b)
-eq_then Less b = refl
-eq_then Equal b = refl
-eq_then Greater b = refl
-
-equal_of : (w : Ordering) → is_eq w ≡ true → w ≡ Equal
-equal_of Less e = absurd (true≢false (sym e))
-equal_of Equal e = refl
-equal_of Greater e = absurd (true≢false (sym e))
-
-both : (a b : Bool) → T a → T b → T (a && b)
-both true b p q = q
-both false b p q = absurd p
-
-parts : (a b : Bool) → T (a && b) → T a × T b
-parts true b h = (tt, h)
-parts false b h = absurd h
-
 -- ---- a label set without the bits that matchers ask for doesn't match them
 
 lacking : (bits required : ℕ) → bit_or bits required ≡ bits → (bit_or bits required == bits) ≡ false → ⊥
@@ -63,10 +44,6 @@ unmatched arrived bits n required labels matchers is lt at asked lacks =
     ] refl
 
 -- ---- a label set is listed under values
-
-twice : {A : Type 0} (b : Bool) (x y z : A) → cond b x (cond b y z) ≡ cond b x z
-twice true x y z = refl
-twice false x y z = refl
 
 some_or : (b : Bool) (x : Option (Unit {0})) → is_some (cond b (Some tt) x) ≡ (b || is_some x)
 some_or true x = refl
@@ -191,7 +168,7 @@ is_put old changed labels values matches are too under other =
 agrees_by_values : (names : List Text) (a b : LabelSet) → eq_by_cmp values_cmp (label_values names a) (label_values names b) ≡ agree_on names a b
 agrees_by_values [] a b = refl
 agrees_by_values (name ∷ names) a b =
-    eq_then (text_cmp (value_of a name) (value_of b name)) (values_cmp (label_values names a) (label_values names b))
+    sym (tied_then (text_cmp (value_of a name) (value_of b name)) (values_cmp (label_values names a) (label_values names b)))
     ∙ ap (λ x. eq_by_cmp text_cmp (value_of a name) (value_of b name) && x) (agrees_by_values names a b)
 
 -- a side that has covered all label sets lists those that agree with the target under its values
@@ -216,9 +193,7 @@ module _ (m : Alerts) where
 
   all_below : (x : LabelSet) (l : List (LabelSet × Unit {0})) → T (below_all label_set_cmp x l) → T (below_all label_set_cmp x (stored_of m (firsts l)))
   all_below x [] a = tt
-  all_below x (y ∷ l) a =
-      let p = parts (is_lt (label_set_cmp x y.0)) (below_all label_set_cmp x l) a in
-      below_got x y.0 (get m y.0) (stored_of m (firsts l)) p.0 (all_below x l p.1)
+  all_below x (y ∷ l) a = below_got x y.0 (get m y.0) (stored_of m (firsts l)) (first _ _ a) (all_below x l (second _ _ a))
 
   sorted_one : (x : LabelSet) (alert : Option Alert) (rest : List (LabelSet × Alert)) → T (below_all label_set_cmp x rest) → T (is_sorted label_set_cmp rest) → T (is_sorted label_set_cmp (cons_option (option_map (λ a. (x, a)) alert) rest))
   sorted_one x None rest b s = s
@@ -226,9 +201,7 @@ module _ (m : Alerts) where
 
   sorted_got : (l : List (LabelSet × Unit {0})) → T (is_sorted label_set_cmp l) → T (is_sorted label_set_cmp (stored_of m (firsts l)))
   sorted_got [] s = tt
-  sorted_got (x ∷ l) s =
-      let p = parts (below_all label_set_cmp x.0 l) (is_sorted label_set_cmp l) s in
-      sorted_one x.0 (get m x.0) (stored_of m (firsts l)) (all_below x.0 l p.0) (sorted_got l p.1)
+  sorted_got (x ∷ l) s = sorted_one x.0 (get m x.0) (stored_of m (firsts l)) (all_below x.0 l (first _ _ s)) (sorted_got l (second _ _ s))
 
   none_either : (b : Bool) (x : Option Alert) → x ≡ None → cond b x None ≡ None
   none_either true x e = e

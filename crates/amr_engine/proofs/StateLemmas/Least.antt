@@ -6,7 +6,7 @@ use Rattle.std.specs.declared.cmp.Ordering.TheVariants.{Less, Equal, Greater}
 use Rattle.std.specs.Ordering.{nat_cmp, is_eq, is_gt, eq_by_cmp, ordering_reverse, ordering_then}
 use Rattle.std.specs.Cmp.{nat_cmp_is, nat_cmp_total}
 use Rattle.amr_labels.specs.Labels.{label_set_cmp}
-use Rattle.std.proofs.lemmas.Bool.{true≢false}
+use Rattle.std.proofs.lemmas.Bool.{true≢false, or_right}
 use Rattle.std.proofs.lemmas.Bool.Decides.{nat_tests}
 use Rattle.std.proofs.lemmas.Cmp.{upto, tied_itself}
 use Rattle.std.proofs.lemmas.Map.Keys.{le_from_not_gt}
@@ -31,15 +31,11 @@ not_after a b h = flipped (due_cmp b a) (sym (ap is_gt (due_cmp_total.antisymm a
 abbrev Any : Kind → Type 0
 Any kind = Unit {0}
 
-either : (a b : Bool) (P : Type 0) → (IsTrue a → P) → (IsTrue b → P) → IsTrue (a || b) → P
+pub either : (a b : Bool) (P : Type 0) → (IsTrue a → P) → (IsTrue b → P) → IsTrue (a || b) → P
 either true b P f g h = f refl
 either false b P f g h = g h
 
-pub or_right : (a b : Bool) → IsTrue b → IsTrue (a || b)
-or_right true b h = refl
-or_right false b h = h
-
-not_both : (b : Bool) (P : Type 0) → b ≡ false → IsTrue b → P
+pub not_both : (b : Bool) (P : Type 0) → b ≡ false → IsTrue b → P
 not_both b P off on = absurd (true≢false (sym on ∙ off))
 
 has_itself : (due : Due) (rest : List Due) → IsTrue (has due_cmp (due ∷ rest) due)

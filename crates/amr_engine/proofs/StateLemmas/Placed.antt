@@ -1,6 +1,5 @@
 -- An alert that is placed on a route: first its copy, then the clock of its group.
-use Rattle.std.specs.Prelude.{◌≡◌, ℕ, zero, suc, List, [], ◌∷◌, Result, Ok, Err}
-use Rattle.std.specs.Result.{OnOk}
+use Rattle.std.specs.Prelude.{◌≡◌, ℕ, zero, suc, List, [], ◌∷◌}
 use Rattle.std.specs.Prelude.{Some, cond, map, length, slice_get}
 use Rattle.std.specs.declared.cmp.Ordering.{Ordering}
 use Rattle.std.specs.declared.cmp.Ordering.TheVariants.{Less, Equal, Greater}
@@ -18,11 +17,6 @@ use Rattle.amr_rules.specs.declared.alert.Alert.{Alert}
 use Rattle.amr_engine.specs.declared.state.notification.GroupTimer.{GroupTimer}
 use Rattle.amr_config.specs.RouteLabels.{on_route}
 use Rattle.amr_engine.specs.State.State.{State, group_key, timer_with, insert_into_group}
-
--- what follows from the fact at a value
-pub on_ok : {T E : Type 0} (r : Result T E) (P Q : Type 0) → (P → Q) → OnOk r P → OnOk r Q
-on_ok (Ok x) P Q f p = f p
-on_ok (Err e) P Q f p = p
 
 pub placed : (s copied : State) (labels : LabelSet) (alert copy : Alert) (route : ℕ) (group route_labels : RouteLabels) (timer : GroupTimer)
     → group ≡ group_key s.config (on_route route labels) → route_labels ≡ on_route route labels → copy ≡ alert

@@ -1,21 +1,22 @@
 -- The members of groups by number, how a change of one of them goes on, and the members of a group.
-use Rattle.std.proofs.Common.{◌≡◌, ◌≢◌, ◌≤◌, ◌<◌, ℕ, zero, suc, Bool, true, false, IsTrue, cond, ◌||◌, ◌&&◌, T, List, [], ◌∷◌, Option, Some, None, is_some, map, length, get_or, ◌++◌, ◌+◌, refl, sym, ap, subst, ◌∙◌, arith}
-use Rattle.std.specs.Prelude.{◌==◌, slice_get, option_map, option_and_then, if◌then◌else◌, IsPermutation, slice_set}
+use Rattle.std.proofs.Common.{◌≡◌, ◌≢◌, ◌≤◌, ◌<◌, ℕ, Bool, true, false, IsTrue, cond, ◌||◌, ◌&&◌, T, List, [], ◌∷◌, Option, Some, None, is_some, map, length, get_or, ◌++◌, ◌+◌, refl, sym, ap, subst, ◌∙◌, arith}
+use Rattle.std.specs.Prelude.{◌==◌, slice_get, option_map, option_and_then, if◌then◌else◌, IsPermutation}
 use Rattle.std.specs.List.{All, AllByRecursion, IsDistinct, list_any, filter, filter_map, cons_option}
 use Rattle.std.specs.List.Sorted.{IsStrictlySortedBy, IsSortedBy}
 use Rattle.std.specs.declared.cmp.Ordering.{Ordering}
 use Rattle.std.specs.declared.cmp.Ordering.TheVariants.{Less, Equal, Greater}
 use Rattle.std.specs.Ordering.{nat_cmp, eq_by_cmp, is_eq, is_lt, ordering_then}
-use Rattle.std.specs.Cmp.{nat_cmp_total, eq_by_cmp_equiv, tied_itself}
+use Rattle.std.specs.Cmp.{nat_cmp_total, eq_by_cmp_equiv, tied_itself, both_ways}
 use Rattle.std.specs.FinMap.{find, is_sorted}
 use Rattle.std.specs.FinMap.Entries.{below_all, is_some-find}
-use Rattle.std.proofs.lemmas.Bool.{true≢false}
+use Rattle.std.proofs.lemmas.Bool.{true≢false, and_from, or_right, false_from_ne_true, and_parts}
 use Rattle.std.proofs.lemmas.Bool.Decides.{nat_tests}
-use Rattle.std.proofs.lemmas.List.{length-set, get_or-set_same, get_or-set_other}
 use Rattle.std.proofs.lemmas.List.Elements.{All-nil, All-cons, All-head, All-tail}
 use Rattle.std.proofs.lemmas.List.Sorted.{All-permutation, IsPermutation-map, list_any-IsPermutation}
 use Rattle.std.proofs.lemmas.Map.Keys.{IsDistinct-IsPermutation}
 use Rattle.std.proofs.lemmas.Option.{same_Some, slice_get-get_or}
+use Rattle.std.proofs.Math.Bool.{and-false}
+use Rattle.std.proofs.lemmas.Map.Views.{tells_apart}
 use Rattle.amr_labels.specs.Labels.{LabelSet, label_set_cmp, label_set_cmp_total, label_set_cmp-IsAntisymmetric}
 use Rattle.amr_labels.specs.Map.{Map, get, set, entries, get-set, get-entries, entries-sorted}
 use Rattle.amr_labels.proofs.Pairs.{own_values}
@@ -40,34 +41,8 @@ use Rattle.amr_engine.proofs.StateLemmas.Scheduling.{not_none, the_value}
 
 -- ---- truth values
 
-equal_of : (w : Ordering) → is_eq w ≡ true → w ≡ Equal
-equal_of Less e = absurd (true≢false (sym e))
-equal_of Equal e = refl
-equal_of Greater e = absurd (true≢false (sym e))
-
-alike : (a b : Bool) → (a ≡ true → b ≡ true) → (b ≡ true → a ≡ true) → a ≡ b
-alike true b f g = sym (f refl)
-alike false true f g = g refl
-alike false false f g = refl
-
-both : (a b : Bool) → a ≡ true → b ≡ true → (a && b) ≡ true
-both true b e f = f
-both false b e f = absurd (true≢false (sym e))
-
-one_of : (a b : Bool) → (a && b) ≡ true → a ≡ true
-one_of true b e = refl
-one_of false b e = e
-
-other_of : (a b : Bool) → (a && b) ≡ true → b ≡ true
-other_of true b e = e
-other_of false b e = absurd (true≢false (sym e))
-
 tied_key : (k other : RouteLabels) → is_eq (route_labels_cmp other k) ≡ true → other ≡ k
-tied_key k other e = route_labels_cmp-IsAntisymmetric other k (equal_of _ e)
-
-or_right : (a b : Bool) → IsTrue b → IsTrue (a || b)
-or_right true b h = refl
-or_right false b h = h
+tied_key k other e = tells_apart route_labels_cmp-IsAntisymmetric other k e
 
 -- each number of a list has what each that is among it has
 all_among : (P : ℕ → Type 0) (ns : List ℕ) → ((n : ℕ) → IsTrue (list_any (λ m. n == m) ns) → P n) → AllByRecursion P ns
@@ -181,15 +156,11 @@ module _ (config : Config) (a : Numbered RouteLabels Alert) (gs : Numbered Route
       present_now : (n : ℕ) → is_marked k.present n ≡ is_marked m.present n
       present_now n = ap (λ l. is_marked l n) present ∙ marked_push m.present n
 
-      none_of : (b : Bool) → (IsTrue b → ⊥) → b ≡ false
-      none_of false h = refl
-      none_of true h = absurd (h refl)
-
       no_value : is_some (get (map_of route_labels_cmp a) key) ≡ false
-      no_value = none_of _ (λ h. let by = the_number a is.numbering key h in not_none by.0 ⊥ (sym by.1 ∙ new))
+      no_value = false_from_ne_true _ (λ h. let by = the_number a is.numbering key h in not_none by.0 ⊥ (sym by.1 ∙ new))
 
       nobody : is_marked m.present (next_number a) ≡ false
-      nobody = none_of _ (λ h. let by = is.named (next_number a) h in let less = is.numbering.within by.0 (next_number a) by.1 in omega (arith, less))
+      nobody = false_from_ne_true _ (λ h. let by = is.named (next_number a) h in let less = is.numbering.within by.0 (next_number a) by.1 in omega (arith, less))
 
   -- a group gets a number
   pub group_placed : (hs : Numbered RouteLabels GroupTimer) (key : RouteLabels) → number_of route_labels_cmp gs key ≡ None → GetsNumber route_labels_cmp gs hs key (next_number gs) → next_number hs ≤ length m.rooms → IsGrouped config a hs m
@@ -246,10 +217,6 @@ keeps : (a b c : Bool) → (a ≡ true → b ≡ true) → (a || (b && c)) ≡ (
 keeps true b c f = sym (ap (λ x. x && true) (f refl))
 keeps false b c f = refl
 
-never : (a : Bool) → false ≡ (a && false)
-never true = refl
-never false = refl
-
 got : (m : Map route_labels_cmp Alert) (es : List (RouteLabels × Alert)) → AllByRecursion (λ e. find route_labels_cmp e.0 (entries m) ≡ Some e.1) es → AllByRecursion (λ e. get m e.0 ≡ Some e.1) es
 got m [] h = tt
 got m (e ∷ es) h = (get-entries m e.0 ∙ h.0, got m es h.1)
@@ -271,7 +238,7 @@ module _ (config : Config) (group : RouteLabels) where
       ∙ ap (λ o. is_eq (ordering_then o (label_set_cmp l key.labels))) (tied_itself nat_cmp_total group.route)
 
   has_among : (l : LabelSet) (es : List (RouteLabels × Alert)) → has label_set_cmp (labels_of_members (among es)) l ≡ (is_in (on_route group.route l) && list_any (eq_by_cmp route_labels_cmp (on_route group.route l)) (map (λ e. e.0) es))
-  has_among l [] = never (is_in (on_route group.route l))
+  has_among l [] = sym (and-false (is_in (on_route group.route l)))
   has_among l (e ∷ es) =
       let own = on_route group.route l in
       let rest = list_any (eq_by_cmp route_labels_cmp own) (map (λ e. e.0) es) in
@@ -426,9 +393,9 @@ module _ (config : Config) (a : Numbered RouteLabels Alert) (gs : Numbered Route
         let it = the_member x all.0 in
         elim (eq_by_cmp label_set_cmp l it.labels) as (λ b. eq_by_cmp label_set_cmp l it.labels ≡ b → IsTrue (b || has label_set_cmp (labels_of_members (members_at ns all.1)) l) → IsTrue (is_in config group (on_route group.route l) && is_some (get (map_of route_labels_cmp a) (on_route group.route l)))) [
           | true ↦ λ e _.
-              let same : it.labels ≡ l = sym (label_set_cmp-IsAntisymmetric l it.labels (equal_of _ e)) in
+              let same : it.labels ≡ l = sym (tells_apart label_set_cmp-IsAntisymmetric l it.labels e) in
               subst (λ l. IsTrue (is_in config group (on_route group.route l) && is_some (get (map_of route_labels_cmp a) (on_route group.route l)))) same
-              (both _ _ (ap (λ r. eq_by_cmp route_labels_cmp r group) it.grouped ∙ ap is_eq (tied_itself route_labels_cmp_total group)) (ap is_some it.value))
+              (and_from _ _ (ap (λ r. eq_by_cmp route_labels_cmp r group) it.grouped ∙ ap is_eq (tied_itself route_labels_cmp_total group)) (ap is_some it.value))
           | false ↦ λ _ rest. has_number ns all.1 l rest
         ] refl h
 
@@ -439,7 +406,7 @@ module _ (config : Config) (a : Numbered RouteLabels Alert) (gs : Numbered Route
         let it = the_member y all.0 in (
           elim (eq_by_cmp label_set_cmp own.labels it.labels) as (λ b. eq_by_cmp label_set_cmp own.labels it.labels ≡ b → b ≡ false) [
             | true ↦ λ e.
-                let same : own.labels ≡ it.labels = label_set_cmp-IsAntisymmetric own.labels it.labels (equal_of _ e) in
+                let same : own.labels ≡ it.labels = tells_apart label_set_cmp-IsAntisymmetric own.labels it.labels e in
                 let number : x ≡ y = same_Some x y (sym own.number ∙ ap (λ l. number_of route_labels_cmp a (on_route group.route l)) same ∙ it.number) in
                 let other = differ.0 in
                 absurd (grind (arith, nat_tests))
@@ -486,7 +453,8 @@ module _ (config : Config) (a : Numbered RouteLabels Alert) (gs : Numbered Route
         has_listed l =
             let key = on_route group.route l in
             sym (list_any-IsPermutation (eq_by_cmp label_set_cmp l) (labels_of_members (members_at numbers all)) (labels_of_members members) labels_moved)
-            ∙ alike (has label_set_cmp (labels_of_members (members_at numbers all)) l) (is_in config group key && is_some (get (map_of route_labels_cmp a) key)) (has_number numbers all l)
+            ∙ both_ways (has label_set_cmp (labels_of_members (members_at numbers all)) l) (is_in config group key && is_some (get (map_of route_labels_cmp a) key)) (has_number numbers all l)
             (λ h.
-            let by = number_in config a gs m is group numbering g at key (other_of (is_in config group key) (is_some (get (map_of route_labels_cmp a) key)) h) (tied_key group (group_key config key) (one_of (is_in config group key) (is_some (get (map_of route_labels_cmp a) key)) h)) in
+            let parts = and_parts (is_in config group key) (is_some (get (map_of route_labels_cmp a) key)) h in
+            let by = number_in config a gs m is group numbering g at key parts.1 (tied_key group (group_key config key) parts.0) in
             has_labels numbers all l by.0 by.1 (those.all by.0 by.2))

@@ -1,5 +1,5 @@
 -- The moments of alerts and groups by number, as the tables change, and the first of them.
-use Rattle.std.proofs.Common.{◌≡◌, ◌≢◌, ◌≤◌, ◌<◌, ◌⊎◌, inl, inr, ℕ, Bool, true, false, IsTrue, is_some, List, [], Option, Some, None, refl, sym, ap, subst, ◌∙◌, arith}
+use Rattle.std.proofs.Common.{◌≡◌, ◌≢◌, ◌≤◌, ◌<◌, ◌⊎◌, inl, inr, ℕ, true, false, IsTrue, is_some, List, [], Option, Some, None, refl, sym, ap, subst, ◌∙◌, arith}
 use Rattle.std.specs.Prelude.{◌==◌, if◌then◌else◌, slice_set}
 use Rattle.std.specs.Option.{option_cmp}
 use Rattle.std.specs.declared.cmp.Ordering.{Ordering}
@@ -7,7 +7,7 @@ use Rattle.std.specs.declared.cmp.Ordering.TheVariants.{Less, Equal, Greater}
 use Rattle.std.specs.Ordering.{nat_cmp, eq_by_cmp, is_gt, is_eq, ordering_then}
 use Rattle.std.specs.Cmp.{IsTotalOrder, nat_cmp_total}
 use Rattle.std.specs.FinMap.{find, IsAntisymmetric, nat_cmp-IsAntisymmetric}
-use Rattle.std.proofs.lemmas.Bool.{true≢false, cases_eq}
+use Rattle.std.proofs.lemmas.Bool.{true≢false, cases_eq, false_from_ne_true}
 use Rattle.std.proofs.lemmas.Bool.Decides.{nat_tests}
 use Rattle.std.proofs.lemmas.Cmp.{tied_itself, tied_back}
 use Rattle.std.proofs.lemmas.Map.Views.{tells_apart}
@@ -31,14 +31,11 @@ use Rattle.amr_engine.specs.declared.state.due.Kind.TheVariants.{AlertRemoval, G
 use Rattle.amr_config.specs.RouteLabels.{on_route, route_labels_cmp, route_labels_cmp_total, route_labels_cmp-IsAntisymmetric}
 use Rattle.amr_engine.specs.State.Dues.{Due, due_cmp, dues_of}
 use Rattle.amr_engine.specs.State.Timed.{IsScheduled, moments_in, alert_moment, group_moment, IsFirstOfKind}
-use Rattle.amr_engine.proofs.StateLemmas.Least.{sooner, alike}
+use Rattle.amr_engine.proofs.StateLemmas.Least.{sooner, alike, not_both}
 use Rattle.amr_engine.proofs.StateLemmas.Timing.{is_at, due_moment, alert_pick, members}
 
 pub not_none : {A : Type 0} (a : A) (P : Type 0) → Some a ≡ None → P
 not_none a P e = cc
-
-not_both : (b : Bool) (P : Type 0) → b ≡ false → b ≡ true → P
-not_both b P off on = absurd (true≢false (sym on ∙ off))
 
 pub the_value : {A : Type 0} (x : Option A) → IsTrue (is_some x) → (a : A) × (x ≡ Some a)
 the_value None h = absurd (true≢false (sym h))
@@ -192,8 +189,7 @@ module _ {K V : Type 0} (R : K → K → Ordering) (t : Numbered K V) where
 
 pub group_none : (kind : Kind) → group_moment kind None ≡ None
 group_none AlertRemoval = refl
-group_none GroupRemoval = refl
-group_none GroupFlush = refl
+group_none kind = refl
 
 -- ---- the first timer of a kind
 
@@ -203,10 +199,6 @@ at_then n (Some m) h = ap (λ m. Some m) (sym (tells_apart nat_cmp-IsAntisymmetr
 
 at_itself : (n : ℕ) → is_at n (Some n) ≡ true
 at_itself n = ap is_eq (tied_itself nat_cmp_total n)
-
-false_if : (b : Bool) → (IsTrue b → ⊥) → b ≡ false
-false_if true f = absurd (f refl)
-false_if false f = refl
 
 module _ (a : Alerts) (c : Map route_labels_cmp GroupTimer) where
   -- when an alert's removal is due
@@ -237,7 +229,7 @@ module _ (a : Alerts) (c : Map route_labels_cmp GroupTimer) where
       )
 
   pub no_alert : ((labels : LabelSet) (moment : Moment) → alert_moment (get a labels) ≡ Some moment → ⊥) → IsFirstOfKind AlertRemoval (dues_of a c) None
-  no_alert none = λ other kind. false_if (has due_cmp (dues_of a c) other) (λ h. none other.labels other.moment (alert_due other.moment other.kind other.route other.labels kind (sym (members a c other) ∙ h)).1)
+  no_alert none = λ other kind. false_from_ne_true (has due_cmp (dues_of a c) other) (λ h. none other.labels other.moment (alert_due other.moment other.kind other.route other.labels kind (sym (members a c other) ∙ h)).1)
 
   of_group : (kind : Kind) → kind ≢ AlertRemoval → (route : ℕ) (labels : LabelSet) → due_moment a c kind route labels ≡ group_moment kind (get c (on_route route labels))
   of_group AlertRemoval never route labels = absurd (never refl)
@@ -264,4 +256,4 @@ module _ (a : Alerts) (c : Map route_labels_cmp GroupTimer) where
       )
 
   pub no_group : (kind : Kind) → kind ≢ AlertRemoval → ((group : RouteLabels) (moment : Moment) → group_moment kind (get c group) ≡ Some moment → ⊥) → IsFirstOfKind kind (dues_of a c) None
-  no_group kind never none = λ other same. false_if (has due_cmp (dues_of a c) other) (λ h. none (on_route other.route other.labels) other.moment (group_due kind never other same h))
+  no_group kind never none = λ other same. false_from_ne_true (has due_cmp (dues_of a c) other) (λ h. none (on_route other.route other.labels) other.moment (group_due kind never other same h))

@@ -1,5 +1,5 @@
 -- Records that can be put back, and places that are marked.
-use Rattle.std.proofs.Common.{◌≡◌, ◌≤◌, ℕ, Bool, true, false, ◌||◌, List, [], ◌∷◌, ◌++◌, Option, Some, None, IsTrue, refl, subst, sym, ap, cond, is_some, ◌∙◌, length, length-append, arith}
+use Rattle.std.proofs.Common.{◌≡◌, ◌≤◌, ℕ, true, false, ◌||◌, List, [], ◌∷◌, ◌++◌, Option, Some, None, IsTrue, refl, subst, sym, ap, cond, is_some, ◌∙◌, length, length-append, arith}
 use Rattle.std.proofs.Math.Nat.{le_refl}
 use Rattle.std.specs.Prelude.{IfSome}
 use Rattle.std.specs.List.{flat_map}
@@ -9,6 +9,7 @@ use Rattle.std.specs.declared.cmp.Ordering.{Ordering}
 use Rattle.std.specs.Ordering.{nat_cmp}
 use Rattle.std.specs.FinMap.{nat_cmp-IsAntisymmetric}
 use Rattle.std.proofs.lemmas.Map.Views.{tells_apart}
+use Rattle.amr_engine.proofs.StateLemmas.Least.{either, not_both}
 use Rattle.amr_tables.specs.Numbered.{Numbered, number_of, has_place, is_entered}
 use Rattle.amr_tables.specs.Records.{Records}
 use Rattle.amr_labels.specs.Labels.{LabelSet, label_set_cmp, label_set_cmp-IsAntisymmetric}
@@ -41,14 +42,12 @@ found x (Some a) e = e
 -- ---- places
 
 sound-more : (a b : Tables) → MorePlaces a b → (e : Change) → IsSound a e → IsSound b e
-sound-more a b more (OfMoment moment) h = h
-sound-more a b more (OfRoster roster) h = h
 sound-more a b more (OfAlert labels alert) h = more.alerts labels h
 sound-more a b more (OfSilence id silence) h = more.silences id h
 sound-more a b more (OfMember member alert) h = more.placements member h
 sound-more a b more (OfTimer group timer) h = more.timers group h
 sound-more a b more (OfLog key entry) h = more.log key h
-sound-more a b more (OfNotes count) h = h
+sound-more a b more e h = h
 
 with_roster-more : (a b : Tables) → MorePlaces a b → (e : Change) → MorePlaces (with_roster a e) (with_roster b e)
 with_roster-more a b more (OfRoster roster) = record { alerts = more.alerts; silences = more.silences; placements = λ k h. h; timers = λ k h. h; log = more.log }
@@ -117,14 +116,6 @@ by_place P m c a s p k l n (OfTimer x v) = k x v
 by_place P m c a s p k l n (OfLog x v) = l x v
 by_place P m c a s p k l n (OfNotes x) = n x
 
-either : (a b : Bool) (P : Type 0) → (IsTrue a → P) → (IsTrue b → P) → IsTrue (a || b) → P
-either true b P f g h = f refl
-either false b P f g h = g h
-
-not_so : (b : Bool) (P : Type 0) → b ≡ false → IsTrue b → P
-not_so true P e h = cc
-not_so false P e h = cc
-
 -- ---- the invariant after a change
 
 -- the open record is as it was
@@ -161,8 +152,8 @@ pub kept_unmarked : (b : Inside) → b.tables.moment ≤ latest_read → AreSoun
 kept_unmarked b moment sound unmarked = record {
   moment = moment;
   sound = sound;
-  marked = λ place h. not_so (is_marked_at b.tables place) _ (unmarked place) h;
-  notes = λ h. not_so b.tables.are_notes_entered _ (unmarked (OfNotes 0)) h;
+  marked = λ place h. not_both (is_marked_at b.tables place) _ (unmarked place) h;
+  notes = λ h. not_both b.tables.are_notes_entered _ (unmarked (OfNotes 0)) h;
 }
 
 -- the open record is closed
@@ -286,25 +277,13 @@ more_still a b c one two = record {
 -- ---- one change
 
 pub no_notes : (e : Change) → IsAllowed e → IsNoNotification e
-no_notes (OfMoment moment) h = tt
-no_notes (OfRoster roster) h = tt
-no_notes (OfAlert labels alert) h = tt
-no_notes (OfSilence id silence) h = tt
-no_notes (OfMember member alert) h = tt
-no_notes (OfTimer group timer) h = tt
-no_notes (OfLog key entry) h = tt
 no_notes (OfNotes count) h = h
+no_notes e h = tt
 
 -- a change is of the place that leads back
 marked_back : (t u : Tables) (e : Change) → is_marked_at t (change_back u e) ≡ is_marked_at t e
 marked_back t u (OfMoment moment) = refl
-marked_back t u (OfRoster roster) = refl
-marked_back t u (OfAlert labels alert) = refl
-marked_back t u (OfSilence id silence) = refl
-marked_back t u (OfMember member alert) = refl
-marked_back t u (OfTimer group timer) = refl
-marked_back t u (OfLog key entry) = refl
-marked_back t u (OfNotes count) = refl
+marked_back t u e = refl
 
 -- the roster that is displaced leads back to the places of before
 more_back : (a b : Tables) (e : Change) → MorePlaces (with_roster a e) b → MorePlaces a (with_roster b (change_back a e))
@@ -323,13 +302,12 @@ placed R t k n at = ap is_some at
 -- that place is there
 sound_back : (t : Tables) (e : Change) (n : ℕ) → t.moment ≤ latest_read → IsPlaceOf t e n → IsSound t (change_back t e)
 sound_back t (OfMoment moment) n late h = late
-sound_back t (OfRoster roster) n late h = tt
 sound_back t (OfAlert labels alert) n late h = placed label_set_cmp t.alerts labels n h
 sound_back t (OfSilence id silence) n late h = placed nat_cmp t.silences id n h
 sound_back t (OfMember member alert) n late h = placed route_labels_cmp t.roster.placements member n h
 sound_back t (OfTimer group timer) n late h = placed route_labels_cmp t.roster.timers group n h
 sound_back t (OfLog key entry) n late h = placed log_key_cmp t.log key n h
-sound_back t (OfNotes count) n late h = tt
+sound_back t e n late h = tt
 
 -- whether a roster can be put back doesn't depend on the present one
 sound_anyway : (t : Tables) (e : Change) → IsSound (with_roster t e) e → IsSound t e
@@ -338,33 +316,15 @@ sound_anyway t e h = h
 
 late_changed : (s : State) (e : Change) → IsAllowed e → s.moment ≤ latest_read → (after_change s e).moment ≤ latest_read
 late_changed s (OfMoment moment) h late = h
-late_changed s (OfRoster roster) h late = late
-late_changed s (OfAlert labels alert) h late = late
-late_changed s (OfSilence id silence) h late = late
-late_changed s (OfMember member alert) h late = late
-late_changed s (OfTimer group timer) h late = late
-late_changed s (OfLog key entry) h late = late
-late_changed s (OfNotes count) h late = late
+late_changed s e h late = late
 
 late_back : (t : Tables) (s : State) (e : Change) → IsSound t e → s.moment ≤ latest_read → (after_change s e).moment ≤ latest_read
 late_back t s (OfMoment moment) h late = h
-late_back t s (OfRoster roster) h late = late
-late_back t s (OfAlert labels alert) h late = late
-late_back t s (OfSilence id silence) h late = late
-late_back t s (OfMember member alert) h late = late
-late_back t s (OfTimer group timer) h late = late
-late_back t s (OfLog key entry) h late = late
-late_back t s (OfNotes count) h late = late
+late_back t s e h late = late
 
 notes_changed : (s : State) (e : Change) → IsAllowed e → (after_change s e).notes ≡ s.notes
-notes_changed s (OfMoment moment) h = refl
-notes_changed s (OfRoster roster) h = refl
-notes_changed s (OfAlert labels alert) h = refl
-notes_changed s (OfSilence id silence) h = refl
-notes_changed s (OfMember member alert) h = refl
-notes_changed s (OfTimer group timer) h = refl
-notes_changed s (OfLog key entry) h = refl
 notes_changed s (OfNotes count) h = absurd h
+notes_changed s e h = refl
 
 notes_apart : (t : Tables) (e : Change) → IsAllowed e → is_covered_by (OfNotes 0) (change_back t e) ≡ false
 notes_apart t (OfNotes count) h = absurd h

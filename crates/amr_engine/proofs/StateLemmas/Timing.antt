@@ -6,11 +6,13 @@ use Rattle.std.specs.List.{filter_map, cons_option}
 use Rattle.std.specs.declared.cmp.Ordering.{Ordering}
 use Rattle.std.specs.declared.cmp.Ordering.TheVariants.{Less, Equal, Greater}
 use Rattle.std.specs.Ordering.{nat_cmp, eq_by_cmp, is_eq, ordering_then}
-use Rattle.std.specs.Cmp.{IsTotalOrder, tied_itself}
+use Rattle.std.specs.Cmp.{IsTotalOrder, tied_itself, Equal-is, tied_then}
 use Rattle.std.specs.FinMap.{find, is_sorted, IsAntisymmetric}
 use Rattle.std.specs.FinMap.Entries.{below_all}
-use Rattle.std.proofs.lemmas.Bool.{true≢false}
+use Rattle.std.proofs.lemmas.Bool.{true≢false, and_parts}
 use Rattle.std.proofs.lemmas.List.Folds.{list_any-append}
+use Rattle.std.proofs.Math.Bool.{or-false, and-true, and-false}
+use Rattle.std.proofs.lemmas.Map.Views.{tells_apart}
 use Rattle.amr_labels.specs.Labels.{LabelSet, label_set_cmp, label_set_cmp_total, label_set_cmp-IsAntisymmetric}
 use Rattle.amr_labels.specs.Map.{Map, get, entries, get-entries, entries-sorted}
 use Rattle.amr_labels.proofs.Sorted as sorted
@@ -29,33 +31,16 @@ use Rattle.amr_engine.specs.State.Timed.{alert_moment, group_moment}
 -- ---- truth values
 
 then_equal : (a : Ordering) → is_eq (ordering_then a Equal) ≡ is_eq a
-then_equal Less = refl
-then_equal Equal = refl
-then_equal Greater = refl
+then_equal a = sym (tied_then a Equal) ∙ and-true (is_eq a)
 
 then_less : (a : Ordering) → is_eq (ordering_then a Less) ≡ false
-then_less Less = refl
-then_less Equal = refl
-then_less Greater = refl
+then_less a = sym (tied_then a Less) ∙ and-false (is_eq a)
 
 then_greater : (a : Ordering) → is_eq (ordering_then a Greater) ≡ false
-then_greater Less = refl
-then_greater Equal = refl
-then_greater Greater = refl
+then_greater a = sym (tied_then a Greater) ∙ and-false (is_eq a)
 
 second_of : (a b : Ordering) → is_eq (ordering_then a b) ≡ true → is_eq b ≡ true
-second_of Less b h = absurd (true≢false (sym h))
-second_of Equal b h = h
-second_of Greater b h = absurd (true≢false (sym h))
-
-equal_of : (w : Ordering) → is_eq w ≡ true → w ≡ Equal
-equal_of Less e = absurd (true≢false (sym e))
-equal_of Equal e = refl
-equal_of Greater e = absurd (true≢false (sym e))
-
-or_false : (a : Bool) → (a || false) ≡ a
-or_false true = refl
-or_false false = refl
+second_of a b h = (and_parts (is_eq a) (is_eq b) (tied_then a b ∙ h)).1
 
 no_of : (a b : Bool) → (a ≡ true → b ≡ true) → b ≡ false → a ≡ false
 no_of true b f e = absurd (true≢false (sym (f refl) ∙ e))
@@ -92,7 +77,7 @@ module _ {K X : Type 0} {R : K → K → Ordering} (o : IsTotalOrder R) (exact :
   found_in (e ∷ es) h =
       has_cons d (f e) (filter_map f es)
       ∙ elim (eq_by_cmp R q e.0) as (λ b. eq_by_cmp R q e.0 ≡ b → (tied d (f e) || has due_cmp (filter_map f es) d) ≡ option_map_or (λ x. tied d (f (q, x))) (cond b (Some e.1) (find R q es)) false) [
-        | true ↦ λ t. ap (λ b. tied d (f e) || b) (none_below e.0 es (equal_of _ t) (sorted.first _ _ h)) ∙ or_false _ ∙ ap (λ k. tied d (f (k, e.1))) (sym (exact q e.0 (equal_of _ t)))
+        | true ↦ λ t. ap (λ b. tied d (f e) || b) (none_below e.0 es ((Equal-is _).0 t) (sorted.first _ _ h)) ∙ or-false _ ∙ ap (λ k. tied d (f (k, e.1))) (sym (tells_apart exact q e.0 t))
         | false ↦ λ t. ap (λ b. b || has due_cmp (filter_map f es) d) (no_of _ _ (apart e) t) ∙ found_in es (sorted.second _ _ h)
       ] refl
 
@@ -133,8 +118,8 @@ due_moment a c GroupFlush route labels = flush_pick GroupFlush (get c (on_route 
 of_one_kind : (a : Alerts) (c : GroupTimers) (n : ℕ) (kind : Kind) (route : ℕ) (labels : LabelSet)
     → ((is_at n (alert_pick kind (nat_cmp route 0) (get a labels)) || is_at n (removal_pick kind (get c (on_route route labels)))) || is_at n (flush_pick kind (get c (on_route route labels))))
     ≡ is_at n (due_moment a c kind route labels)
-of_one_kind a c n AlertRemoval route labels = or_false _ ∙ or_false _
-of_one_kind a c n GroupRemoval route labels = or_false _
+of_one_kind a c n AlertRemoval route labels = or-false _ ∙ or-false _
+of_one_kind a c n GroupRemoval route labels = or-false _
 of_one_kind a c n GroupFlush route labels = refl
 
 alert_tied : (n : ℕ) (kind : Kind) (z : Ordering) (labels : LabelSet) (alert : Option Alert)

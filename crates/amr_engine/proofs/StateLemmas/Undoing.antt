@@ -9,6 +9,7 @@ use Rattle.std.specs.Cmp.{IsTotalOrder, nat_cmp_total}
 use Rattle.std.specs.FinMap.{IsAntisymmetric, nat_cmp-IsAntisymmetric}
 use Rattle.std.proofs.lemmas.Cmp.{eq_by_cmp_equiv}
 use Rattle.std.proofs.lemmas.Map.Views.{tells_apart}
+use Rattle.std.proofs.lemmas.Bool.{or_right}
 use Rattle.amr_labels.specs.Map.{Map, get, set, get-set, set-back, same_map}
 use Rattle.amr_labels.specs.Labels.{label_set_cmp_total, label_set_cmp-IsAntisymmetric}
 use Rattle.amr_rules.specs.declared.alert.Alert.{Alert}
@@ -35,14 +36,13 @@ put_back-push (first ∷ rest) last s = ap (λ (x : State). after_change x first
 
 -- a change of one place is put back by the value that the place had
 pub put_back-change : (t : Tables) (change : Change) → IsNoNotification change → after_change (after_change (shown_by t) change) (change_back t change) ≡ shown_by t
-put_back-change t (OfMoment now) h = refl
-put_back-change t (OfRoster roster) h = refl
 put_back-change t (OfAlert labels alert) h = ap (λ (m : Alerts). record (shown_by t) { alerts = m }) (set-back label_set_cmp_total label_set_cmp-IsAntisymmetric (shown_by t).alerts labels alert)
 put_back-change t (OfSilence id silence) h = ap (λ (m : Silences). record (shown_by t) { silences = m }) (set-back nat_cmp_total nat_cmp-IsAntisymmetric (shown_by t).silences id silence)
 put_back-change t (OfMember member alert) h = ap (λ (m : Map route_labels_cmp Alert). record (shown_by t) { placements = m }) (set-back route_labels_cmp_total route_labels_cmp-IsAntisymmetric (shown_by t).placements member alert)
 put_back-change t (OfTimer group timer) h = ap (λ (m : Map route_labels_cmp GroupTimer). record (shown_by t) { timers = m }) (set-back route_labels_cmp_total route_labels_cmp-IsAntisymmetric (shown_by t).timers group timer)
 put_back-change t (OfLog key entry) h = ap (λ (m : Map log_key_cmp LogEntry). record (shown_by t) { log = m }) (set-back log_key_cmp_total log_key_cmp-IsAntisymmetric (shown_by t).log key entry)
 put_back-change t (OfNotes count) h = absurd h
+put_back-change t change h = refl
 
 -- so is a notification that is appended
 pub put_back-notification : (s : State) (notification : Notification) → after_change (record s { notes = s.notes ++ notification ∷ [] }) (OfNotes (length s.notes)) ≡ s
@@ -57,7 +57,7 @@ put_back-appended entries s notification = put_back-push entries (OfNotes (lengt
 
 -- ---- a second change of a place
 
-twice : {A : Type 0} (b : Bool) (x y z : A) → cond b x (cond b y z) ≡ cond b x z
+pub twice : {A : Type 0} (b : Bool) (x y z : A) → cond b x (cond b y z) ≡ cond b x z
 twice true x y z = refl
 twice false x y z = refl
 
@@ -78,12 +78,12 @@ module _ {K : Type 0} {R : K → K → Ordering} (o : IsTotalOrder R) (same : Is
 
 module _ {K X : Type 0} {R : K → K → Ordering} (o : IsTotalOrder R) (same : IsAntisymmetric R) where
   -- of two values of one key the second counts
-  set-set : (m : Map R X) (a b : K) (v w : Option X) → eq_by_cmp R a b ≡ true → set (set m a v) b w ≡ set m b w
+  pub set-set : (m : Map R X) (a b : K) (v w : Option X) → eq_by_cmp R a b ≡ true → set (set m a v) b w ≡ set m b w
   set-set m a b v w t = subst (λ k. set (set m a v) k w ≡ set m k w) (tells_apart same a b t) (same_map o same _ _ (λ q.
       get-set o (set m a v) a w q ∙ ap (cond (eq_by_cmp R q a) w) (get-set o m a v q) ∙ twice (eq_by_cmp R q a) w v (get m q) ∙ sym (get-set o m a w q)))
 
   -- values of two keys are set in any order
-  set-swap : (m : Map R X) (a b : K) (v w : Option X) → eq_by_cmp R a b ≡ false → set (set m a v) b w ≡ set (set m b w) a v
+  pub set-swap : (m : Map R X) (a b : K) (v w : Option X) → eq_by_cmp R a b ≡ false → set (set m a v) b w ≡ set (set m b w) a v
   set-swap m a b v w f = same_map o same _ _ (λ q.
       get-set o (set m a v) b w q ∙ ap (cond (eq_by_cmp R q b) w) (get-set o m a v q)
       ∙ swapped (eq_by_cmp R q b) (eq_by_cmp R q a) w v (get m q) (not_both o same a b q f)
@@ -133,37 +133,23 @@ passes_same (OfNotes a) (OfNotes b) s t is h =
     ap (λ (notes : List Notification). record s { notes = notes }) (take-swap b a s.notes) ∙ ap (λ (x : State). after_change x (OfNotes a)) h
     ∙ ap (λ (notes : List Notification). record t { notes = notes }) (take-swap a b t.notes)
 passes_same (OfNotes a) q s t is h = absurd (unlike is)
-passes_same (OfMoment a) q s t is h = overwrite s (OfMoment a) q is tt ∙ h ∙ sym (overwrite t (OfMoment a) q is tt)
-passes_same (OfRoster a) q s t is h = overwrite s (OfRoster a) q is tt ∙ h ∙ sym (overwrite t (OfRoster a) q is tt)
-passes_same (OfAlert a v) q s t is h = overwrite s (OfAlert a v) q is tt ∙ h ∙ sym (overwrite t (OfAlert a v) q is tt)
-passes_same (OfSilence a v) q s t is h = overwrite s (OfSilence a v) q is tt ∙ h ∙ sym (overwrite t (OfSilence a v) q is tt)
-passes_same (OfMember a v) q s t is h = overwrite s (OfMember a v) q is tt ∙ h ∙ sym (overwrite t (OfMember a v) q is tt)
-passes_same (OfTimer a v) q s t is h = overwrite s (OfTimer a v) q is tt ∙ h ∙ sym (overwrite t (OfTimer a v) q is tt)
-passes_same (OfLog a v) q s t is h = overwrite s (OfLog a v) q is tt ∙ h ∙ sym (overwrite t (OfLog a v) q is tt)
+passes_same e q s t is h = overwrite s e q is tt ∙ h ∙ sym (overwrite t e q is tt)
 
 passes_other : (e q : Change) (s t : State) → KeepsRoster e → KeepsRoster q → is_covered_by e q ≡ false → after_change s q ≡ after_change t q → after_change (after_change s e) q ≡ after_change (after_change t e) q
 passes_other e q s t one two f h = commute s e q one two f ∙ ap (λ (x : State). after_change x e) h ∙ sym (commute t e q one two f)
 
 -- states that an entry makes alike are alike under any roster, with that entry
 with_any_roster : (roster : Rostered) (q : Change) (s t : State) → after_change s q ≡ after_change t q → after_change (after_change s (OfRoster roster)) q ≡ after_change (after_change t (OfRoster roster)) q
-with_any_roster roster (OfMoment a) s t h = ap (λ (x : State). after_change x (OfRoster roster)) h
 with_any_roster roster (OfRoster a) s t h = h
-with_any_roster roster (OfAlert a v) s t h = ap (λ (x : State). after_change x (OfRoster roster)) h
-with_any_roster roster (OfSilence a v) s t h = ap (λ (x : State). after_change x (OfRoster roster)) h
 with_any_roster roster (OfMember a v) s t h = ap (λ (x : State). after_change (after_change x (OfRoster roster)) (OfMember a v)) h
 with_any_roster roster (OfTimer a v) s t h = ap (λ (x : State). after_change (after_change x (OfRoster roster)) (OfTimer a v)) h
-with_any_roster roster (OfLog a v) s t h = ap (λ (x : State). after_change x (OfRoster roster)) h
-with_any_roster roster (OfNotes a) s t h = ap (λ (x : State). after_change x (OfRoster roster)) h
+with_any_roster roster q s t h = ap (λ (x : State). after_change x (OfRoster roster)) h
 
 passes_else : (e q : Change) (s t : State) → is_covered_by e q ≡ false → after_change s q ≡ after_change t q → after_change (after_change s e) q ≡ after_change (after_change t e) q
 passes_else (OfRoster roster) q s t f h = with_any_roster roster q s t h
 passes_else (OfMember a v) (OfRoster roster) s t f h = h
 passes_else (OfTimer a v) (OfRoster roster) s t f h = h
-passes_else (OfMoment a) (OfRoster roster) s t f h = ap (λ (x : State). after_change x (OfMoment a)) h
-passes_else (OfAlert a v) (OfRoster roster) s t f h = ap (λ (x : State). after_change x (OfAlert a v)) h
-passes_else (OfSilence a v) (OfRoster roster) s t f h = ap (λ (x : State). after_change x (OfSilence a v)) h
-passes_else (OfLog a v) (OfRoster roster) s t f h = ap (λ (x : State). after_change x (OfLog a v)) h
-passes_else (OfNotes a) (OfRoster roster) s t f h = ap (λ (x : State). after_change x (OfNotes a)) h
+passes_else e (OfRoster roster) s t f h = ap (λ (x : State). after_change x e) h
 passes_else e q s t f h = passes_other e q s t tt tt f h
 
 -- states that one entry makes alike it makes alike after another, too
@@ -220,10 +206,6 @@ notes_entered-last (first ∷ rest) count n h = inr (notes_entered-last rest cou
 or_left : (a b c : Bool) → (b ≡ true → c ≡ true) → (a || b) ≡ true → (a || c) ≡ true
 or_left true b c f h = refl
 or_left false b c f h = f h
-
-pub or_right : (a b : Bool) → b ≡ true → (a || b) ≡ true
-or_right true b h = refl
-or_right false b h = h
 
 -- a place that has an entry has one in a record with one entry more
 pub has_entry-push : (entries : List Change) (e place : Change) → has_entry entries place ≡ true → has_entry (entries ++ e ∷ []) place ≡ true

@@ -2,7 +2,8 @@ use Rattle.std.proofs.Common.{◌≡◌, ◌∙◌, sym, ap}
 use Rattle.amr_config.specs.Routing.{group_wait_of}
 use Rattle.amr_labels.specs.Map.{get}
 use Rattle.amr_engine.specs.State.State.{State, group_key, timer_with}
-use Rattle.amr_engine.proofs.StateLemmas.Placed.{on_ok, placed}
+use Rattle.amr_engine.proofs.StateLemmas.Placed.{placed}
+use Rattle.amr_engine.proofs.Notifying.{on_ok}
 use Rattle.amr_engine.proofs.state.inserting.insert_into_group.Goals as goal
 
 pub put_member-requires : goal.put_member-requires
