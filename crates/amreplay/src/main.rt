@@ -19,6 +19,9 @@ use std::process::ExitCode;
 use std::rt::{Env, Files};
 use std::{env, fs};
 
+/// How many bytes a run writes at once. A session writes each answer when it has it.
+const WRITTEN_AT_ONCE: usize = 1 << 16;
+
 fn main(rt: HostRuntime) -> ExitCode {
     match start(&rt) {
         Ok(()) => ExitCode::SUCCESS,
@@ -64,7 +67,7 @@ fn check_file(rt: &HostRuntime, config: &str) -> Result<(), Fault> {
 fn run_files(rt: &HostRuntime, config: &str, script: &str) -> Result<(), Fault> {
     let config = config_bytes(rt, config)?;
     let script = open_file(rt, script, Fault::CannotReadScript)?;
-    let Ok(out) = BufWriter::new(rt.alloc(), rt.stdout()) else {
+    let Ok(out) = BufWriter::with_capacity(rt.alloc(), WRITTEN_AT_ONCE, rt.stdout()) else {
         return Err(Fault::Memory);
     };
     run_script(
