@@ -42,37 +42,8 @@ ends : (b : Bool) (mode : Mode) (name : Text) (operator : Operator) (value : Tex
     IsSome (option_and_then matchers_at_end (run (Some (record { braced = b; mode = mode; name = name; operator = operator; value = value; matchers = matchers })) (completion b mode)))
 unfolding kind_of begins_matcher after_name ends_value begins_value in_name in_value after_bang after_equals at_start after_braces step_from with_part ending
 ends true Start n o v m = refl
-ends true Opened n o v m = refl
-ends true NameLiteral n o v m = refl
-ends true NameOpened n o v m = refl
-ends true NameQuoted n o v m = refl
-ends true NameEscape n o v m = refl
-ends true AfterName n o v m = refl
-ends true AfterBang n o v m = refl
-ends true AfterEquals n o v m = refl
-ends true ValueStart n o v m = refl
-ends true ValueLiteral n o v m = refl
-ends true ValueQuoted n o v m = refl
-ends true ValueEscape n o v m = refl
-ends true AfterValue n o v m = refl
-ends true AfterComma n o v m = refl
-ends true Closed n o v m = refl
 ends false Start n o v m = refl
-ends false Opened n o v m = refl
-ends false NameLiteral n o v m = refl
-ends false NameOpened n o v m = refl
-ends false NameQuoted n o v m = refl
-ends false NameEscape n o v m = refl
-ends false AfterName n o v m = refl
-ends false AfterBang n o v m = refl
-ends false AfterEquals n o v m = refl
-ends false ValueStart n o v m = refl
-ends false ValueLiteral n o v m = refl
-ends false ValueQuoted n o v m = refl
-ends false ValueEscape n o v m = refl
-ends false AfterValue n o v m = refl
-ends false AfterComma n o v m = refl
-ends false Closed n o v m = refl
+ends b _ n o v m = refl
 
 some_of : {X : Type 0} (o : Option X) → IsSome o → (x : X) × (o ≡ Some x)
 some_of None h = absurd (false≢true h)

@@ -1,7 +1,7 @@
 -- What the kinds of characters mean.
 use Rattle.std.proofs.Common.{◌≡◌, ℕ, Bool, true, false, not, ◌||◌, ◌&&◌, ◌==◌, if◌then◌else◌, refl, sym, ap, ◌∙◌}
 use Rattle.std.specs.Char.{is_whitespace}
-use Rattle.std.proofs.lemmas.Bool.{eqb-true, false≢true, and_parts}
+use Rattle.std.proofs.lemmas.Bool.{eqb-true, false≢true, and_parts, or_parts, not-true}
 use Rattle.amr_labels.specs.declared.matcher.matcher_steps.Kind.{Kind}
 use Rattle.amr_labels.specs.declared.matcher.matcher_steps.Kind.TheVariants.{Blank, Opening, Closing, Bang, Equals, Tilde, Comma, Quote, Reserved, Plain}
 use Rattle.amr_labels.specs.Matcher.MatcherText.{is_mark, is_literal}
@@ -24,16 +24,12 @@ chosen : (P : Kind → Type 0) (b : Bool) (x y : Kind) → (b ≡ true → P x) 
 chosen P true x y f g = f refl
 chosen P false x y f g = g refl
 
-or_false : (x y : Bool) → (x || y) ≡ false → (x ≡ false) × (y ≡ false)
-or_false true y h = absurd (false≢true (sym h))
-or_false false y h = (refl, h)
-
 -- not a mark and not white space
 unmarked : (w a b c d e f g h i j : Bool) → w ≡ false → a ≡ false → b ≡ false → c ≡ false → d ≡ false → e ≡ false → f ≡ false → h ≡ false → (g || i || j) ≡ false →
     (not w && not (a || b || c || d || e || f || g || h || i || j)) ≡ true
 unmarked w a b c d e f g h i j pw pa pb pc pd pe pf ph pr =
-    let r1 = or_false (g || i) j pr in
-    let r2 = or_false g i r1.0 in
+    let r1 = or_parts (g || i) j pr in
+    let r2 = or_parts g i r1.0 in
     rw (pw, pa, pb, pc, pd, pe, pf, r2.0, ph, r2.1, r1.1) refl
 
 mark_means : (c : ℕ) → is_whitespace c ≡ false → Means (mark_kind c) c
@@ -59,28 +55,15 @@ pub kind_of_blank : (c : ℕ) → is_whitespace c ≡ true → kind_of c ≡ Bla
 unfolding kind_of
 kind_of_blank c h = ap (λ b. if b then Blank else mark_kind c) h
 
-not_true : (b : Bool) → not b ≡ true → b ≡ false
-not_true true h = absurd (false≢true h)
-not_true false h = refl
-
 plain : (a b c d e f g h i j : Bool) → (a || b || c || d || e || f || g || h || i || j) ≡ false →
     (if a then Opening else (if b then Closing else (if c then Bang else (if d then Equals else (if e then Tilde else (if f then Comma else (if h then Quote
     else (if g || i || j then Reserved else Plain)))))))) ≡ Plain
-plain true b c d e f g h i j p = absurd (false≢true (sym p))
-plain false true c d e f g h i j p = absurd (false≢true (sym p))
-plain false false true d e f g h i j p = absurd (false≢true (sym p))
-plain false false false true e f g h i j p = absurd (false≢true (sym p))
-plain false false false false true f g h i j p = absurd (false≢true (sym p))
-plain false false false false false true g h i j p = absurd (false≢true (sym p))
-plain false false false false false false true h i j p = absurd (false≢true (sym p))
-plain false false false false false false false true i j p = absurd (false≢true (sym p))
-plain false false false false false false false false true j p = absurd (false≢true (sym p))
-plain false false false false false false false false false true p = absurd (false≢true (sym p))
 plain false false false false false false false false false false p = refl
+plain a b c d e f g h i j p = absurd (false≢true (sym p))
 
 pub kind_of_literal : (c : ℕ) → is_literal c ≡ true → kind_of c ≡ Plain
 unfolding kind_of
 kind_of_literal c h =
     let parts = and_parts (not (is_whitespace c)) (not (is_mark c)) h in
-    ap (λ b. if b then Blank else mark_kind c) (not_true (is_whitespace c) parts.0)
-    ∙ plain (c == 123) (c == 125) (c == 33) (c == 61) (c == 126) (c == 44) (c == 92) (c == 34) (c == 39) (c == 96) (not_true (is_mark c) parts.1)
+    ap (λ b. if b then Blank else mark_kind c) (not-true (is_whitespace c) parts.0)
+    ∙ plain (c == 123) (c == 125) (c == 33) (c == 61) (c == 126) (c == 44) (c == 92) (c == 34) (c == 39) (c == 96) (not-true (is_mark c) parts.1)
