@@ -9,10 +9,10 @@ use Rattle.std.proofs.lemmas.List.{append-nil}
 use Rattle.amr_labels.specs.declared.matcher.Operator.{Operator}
 use Rattle.amr_labels.specs.declared.matcher.Operator.TheVariants.{Equal, NotEqual, Matches, NotMatches}
 use Rattle.amr_labels.specs.declared.matcher.matcher_steps.Kind.{Kind}
-use Rattle.amr_labels.specs.declared.matcher.matcher_steps.Kind.TheVariants.{Blank, Quote, Plain}
+use Rattle.amr_labels.specs.declared.matcher.matcher_steps.Kind.TheVariants.{Blank, Comma, Quote, Plain}
 use Rattle.amr_labels.specs.declared.matcher.matcher_steps.Mode.{Mode}
 use Rattle.amr_labels.specs.declared.matcher.matcher_steps.Mode.TheVariants.{Start, Opened, NameLiteral, NameOpened, NameQuoted, NameEscape, AfterName, AfterEquals, ValueStart, ValueLiteral, ValueQuoted, ValueEscape, AfterValue, AfterComma, Closed}
-use Rattle.amr_labels.specs.declared.matcher.matcher_steps.Part.TheVariants.{Nothing, NameEscaped, ValueEscaped}
+use Rattle.amr_labels.specs.declared.matcher.matcher_steps.Part.TheVariants.{Nothing, Name, NameEscaped, Value, ValueEscaped, End}
 use Rattle.amr_labels.specs.declared.matcher.matcher_steps.Step.{Step}
 use Rattle.amr_labels.specs.Labels.{Text}
 use Rattle.amr_labels.specs.Matcher.Matchers.{Matcher}
@@ -28,77 +28,28 @@ reading b p n o v ms = record { braced = b; mode = p; name = n; operator = o; va
 abbrev pub moved : Reading → Option Step → Option Reading
 moved r step = option_map (λ (s : Step). record (with_part s.part r) { mode = s.mode }) step
 
--- the step by a character of a known kind
-advance : (r : Reading) (c : ℕ) (k : Kind) → kind_of c ≡ k → next r c ≡ moved r (step_at r.braced r.mode c k)
+-- over a character of a known kind, whose step is known
+run_by : (r : Reading) (c : ℕ) (k : Kind) (step : Option Step) (rest : List ℕ) → kind_of c ≡ k → step_at r.braced r.mode c k ≡ step → run (Some r) (c ∷ rest) ≡ run (moved r step) rest
 unfolding step_from
-advance r c k h = ap (λ (kind : Kind). moved r (step_at r.braced r.mode c kind)) h
+run_by r c k step rest h e = ap (λ (kind : Kind). run (moved r (step_at r.braced r.mode c kind)) rest) h ∙ ap (λ s. run (moved r s) rest) e
 
-run_step : (r s : Reading) (c : ℕ) (rest : List ℕ) → next r c ≡ Some s → run (Some r) (c ∷ rest) ≡ run (Some s) rest
-run_step r s c rest h = ap (λ o. run o rest) h
-
-quote_kind : kind_of 34 ≡ Quote
-unfolding kind_of
-quote_kind = refl
-
--- the states in which white space changes nothing
-abbrev rests : Mode → Bool
-rests Start = true
-rests Opened = true
-rests AfterName = true
-rests ValueStart = true
-rests AfterValue = true
-rests AfterComma = true
-rests Closed = true
-rests _ = false
-
-blank_rests : (b : Bool) (p : Mode) (n : Text) (o : Operator) (v : Text) (ms : List Matcher) (c : ℕ) → rests p ≡ true → is_whitespace c ≡ true →
-    next (reading b p n o v ms) c ≡ Some (reading b p n o v ms)
-unfolding begins_matcher after_name ends_value begins_value at_start after_braces with_part
-blank_rests b Start n o v ms c h w = advance (reading b Start n o v ms) c Blank (kind_of_blank c w)
-blank_rests b Opened n o v ms c h w = advance (reading b Opened n o v ms) c Blank (kind_of_blank c w)
-blank_rests b AfterName n o v ms c h w = advance (reading b AfterName n o v ms) c Blank (kind_of_blank c w)
-blank_rests b ValueStart n o v ms c h w = advance (reading b ValueStart n o v ms) c Blank (kind_of_blank c w)
-blank_rests b AfterValue n o v ms c h w = advance (reading b AfterValue n o v ms) c Blank (kind_of_blank c w)
-blank_rests b AfterComma n o v ms c h w = advance (reading b AfterComma n o v ms) c Blank (kind_of_blank c w)
-blank_rests b Closed n o v ms c h w = advance (reading b Closed n o v ms) c Blank (kind_of_blank c w)
-blank_rests b _ n o v ms c h w = absurd (false≢true h)
-
-run_blanks : (b : Bool) (p : Mode) (n : Text) (o : Operator) (v : Text) (ms : List Matcher) → rests p ≡ true → (space rest : List ℕ) → is_blank space ≡ true →
-    run (Some (reading b p n o v ms)) (space ++ rest) ≡ run (Some (reading b p n o v ms)) rest
-run_blanks b p n o v ms h [] rest w = refl
-run_blanks b p n o v ms h (c ∷ space) rest w =
+-- over white space that changes nothing
+run_blanks : (r : Reading) → ((c : ℕ) → step_at r.braced r.mode c Blank ≡ go r.mode Nothing) → (space rest : List ℕ) → is_blank space ≡ true →
+    run (Some r) (space ++ rest) ≡ run (Some r) rest
+unfolding with_part
+run_blanks r rests [] rest w = refl
+run_blanks r rests (c ∷ space) rest w =
     let parts = and_parts (is_whitespace c) (list_all is_whitespace space) w in
-    run_step (reading b p n o v ms) (reading b p n o v ms) c (space ++ rest) (blank_rests b p n o v ms c h parts.0)
-    ∙ run_blanks b p n o v ms h space rest parts.1
+    run_by r c Blank _ (space ++ rest) (kind_of_blank c parts.0) (rests c) ∙ run_blanks r rests space rest parts.1
 
--- literals
-name_more : (b : Bool) (n : Text) (o : Operator) (v : Text) (ms : List Matcher) (c : ℕ) → is_literal c ≡ true →
-    next (reading b NameLiteral n o v ms) c ≡ Some (reading b NameLiteral (n ++ encode_utf8 c) o v ms)
-unfolding in_name with_part
-name_more b n o v ms c h = advance (reading b NameLiteral n o v ms) c Plain (kind_of_literal c h)
-
-value_more : (b : Bool) (n : Text) (o : Operator) (v : Text) (ms : List Matcher) (c : ℕ) → is_literal c ≡ true →
-    next (reading b ValueLiteral n o v ms) c ≡ Some (reading b ValueLiteral n o (v ++ encode_utf8 c) ms)
-unfolding in_value with_part
-value_more b n o v ms c h = advance (reading b ValueLiteral n o v ms) c Plain (kind_of_literal c h)
-
-run_name : (cs : List ℕ) (b : Bool) (n : Text) (o : Operator) (v : Text) (ms : List Matcher) (rest : List ℕ) → list_all is_literal cs ≡ true →
-    run (Some (reading b NameLiteral n o v ms)) (cs ++ rest) ≡ run (Some (reading b NameLiteral (n ++ encode_utf8_all cs) o v ms)) rest
-run_name [] b n o v ms rest h = ap (λ t. run (Some (reading b NameLiteral t o v ms)) rest) (sym (append-nil n))
-run_name (c ∷ cs) b n o v ms rest h =
+-- over a literal, if each of its characters is added to the text that is read
+run_literal : (at : Text → Reading) → ((t : Text) (c : ℕ) (rest : List ℕ) → is_literal c ≡ true → run (Some (at t)) (c ∷ rest) ≡ run (Some (at (t ++ encode_utf8 c))) rest) →
+    (cs : List ℕ) (t : Text) (rest : List ℕ) → list_all is_literal cs ≡ true → run (Some (at t)) (cs ++ rest) ≡ run (Some (at (t ++ encode_utf8_all cs))) rest
+run_literal at more [] t rest h = ap (λ s. run (Some (at s)) rest) (sym (append-nil t))
+run_literal at more (c ∷ cs) t rest h =
     let parts = and_parts (is_literal c) (list_all is_literal cs) h in
-    run_step (reading b NameLiteral n o v ms) (reading b NameLiteral (n ++ encode_utf8 c) o v ms) c (cs ++ rest) (name_more b n o v ms c parts.0)
-    ∙ run_name cs b (n ++ encode_utf8 c) o v ms rest parts.1
-    ∙ ap (λ t. run (Some (reading b NameLiteral t o v ms)) rest) (append_assoc n (encode_utf8 c) (encode_utf8_all cs))
-
-run_value : (cs : List ℕ) (b : Bool) (n : Text) (o : Operator) (v : Text) (ms : List Matcher) (rest : List ℕ) → list_all is_literal cs ≡ true →
-    run (Some (reading b ValueLiteral n o v ms)) (cs ++ rest) ≡ run (Some (reading b ValueLiteral n o (v ++ encode_utf8_all cs) ms)) rest
-run_value [] b n o v ms rest h = ap (λ t. run (Some (reading b ValueLiteral n o t ms)) rest) (sym (append-nil v))
-run_value (c ∷ cs) b n o v ms rest h =
-    let parts = and_parts (is_literal c) (list_all is_literal cs) h in
-    run_step (reading b ValueLiteral n o v ms) (reading b ValueLiteral n o (v ++ encode_utf8 c) ms) c (cs ++ rest) (value_more b n o v ms c parts.0)
-    ∙ run_value cs b n o (v ++ encode_utf8 c) ms rest parts.1
-    ∙ ap (λ t. run (Some (reading b ValueLiteral n o t ms)) rest) (append_assoc v (encode_utf8 c) (encode_utf8_all cs))
+    more t c (cs ++ rest) parts.0 ∙ run_literal at more cs (t ++ encode_utf8 c) rest parts.1
+    ∙ ap (λ s. run (Some (at s)) rest) (append_assoc t (encode_utf8 c) (encode_utf8_all cs))
 
 -- texts in quotes
 quoted_plain : (c : ℕ) (ended : Option Step) (escape : Mode) (plain : Option Step) → is_piece (Character c) ≡ true → in_quotes ended escape plain c ≡ plain
@@ -107,66 +58,64 @@ quoted_plain c ended escape plain h =
     ap (λ b. if b then ended else (if c == 92 then go escape Nothing else plain)) (not-true (c == 34) parts.0)
     ∙ ap (λ b. if b then go escape Nothing else plain) (not-true (c == 92) parts.1)
 
--- the states in which a quoted name goes on, and those in which a quoted value does
-abbrev in_name_quotes : Mode → Bool
-in_name_quotes NameOpened = true
-in_name_quotes NameQuoted = true
-in_name_quotes _ = false
-
 one : (t : Text) (c : ℕ) → t ++ encode_utf8 c ≡ t ++ encode_utf8_all (c ∷ [])
 one t c = ap (λ e. t ++ e) (sym (append-nil (encode_utf8 c)))
 
-run_name_piece : (piece : Piece) (b : Bool) (p : Mode) (n : Text) (o : Operator) (v : Text) (ms : List Matcher) (rest : List ℕ) → in_name_quotes p ≡ true → is_piece piece ≡ true →
-    run (Some (reading b p n o v ms)) (piece_text piece ++ rest) ≡ run (Some (reading b NameQuoted (n ++ encode_utf8_all (piece_value piece)) o v ms)) rest
+name_piece : (b : Bool) (o : Operator) (v : Text) (ms : List Matcher) (n : Text) (piece : Piece) (rest : List ℕ) → is_piece piece ≡ true →
+    run (Some (reading b NameQuoted n o v ms)) (piece_text piece ++ rest) ≡ run (Some (reading b NameQuoted (n ++ encode_utf8_all (piece_value piece)) o v ms)) rest
 unfolding step_from with_part
-run_name_piece (Character c) b NameOpened n o v ms rest q h =
-    ap (λ s. run (moved (reading b NameOpened n o v ms) s) rest) (quoted_plain c _ _ _ h) ∙ ap (λ t. run (Some (reading b NameQuoted t o v ms)) rest) (one n c)
-run_name_piece (Character c) b NameQuoted n o v ms rest q h =
+name_piece b o v ms n (Character c) rest h =
     ap (λ s. run (moved (reading b NameQuoted n o v ms) s) rest) (quoted_plain c _ _ _ h) ∙ ap (λ t. run (Some (reading b NameQuoted t o v ms)) rest) (one n c)
-run_name_piece (Escape c) b NameOpened n o v ms rest q h =
+name_piece b o v ms n (Escape c) rest h =
     ap (λ r. run (moved (reading b NameEscape n o v ms) (if r then None else go NameQuoted (NameEscaped c))) rest) (not-true (is_refused c) h)
-run_name_piece (Escape c) b NameQuoted n o v ms rest q h =
-    ap (λ r. run (moved (reading b NameEscape n o v ms) (if r then None else go NameQuoted (NameEscaped c))) rest) (not-true (is_refused c) h)
-run_name_piece piece b _ n o v ms rest q h = absurd (false≢true q)
 
-run_value_piece : (piece : Piece) (b : Bool) (n : Text) (o : Operator) (v : Text) (ms : List Matcher) (rest : List ℕ) → is_piece piece ≡ true →
+value_piece : (b : Bool) (n : Text) (o : Operator) (ms : List Matcher) (v : Text) (piece : Piece) (rest : List ℕ) → is_piece piece ≡ true →
     run (Some (reading b ValueQuoted n o v ms)) (piece_text piece ++ rest) ≡ run (Some (reading b ValueQuoted n o (v ++ encode_utf8_all (piece_value piece)) ms)) rest
 unfolding step_from with_part
-run_value_piece (Character c) b n o v ms rest h =
+value_piece b n o ms v (Character c) rest h =
     ap (λ s. run (moved (reading b ValueQuoted n o v ms) s) rest) (quoted_plain c _ _ _ h) ∙ ap (λ t. run (Some (reading b ValueQuoted n o t ms)) rest) (one v c)
-run_value_piece (Escape c) b n o v ms rest h =
+value_piece b n o ms v (Escape c) rest h =
     ap (λ r. run (moved (reading b ValueEscape n o v ms) (if r then None else go ValueQuoted (ValueEscaped c))) rest) (not-true (is_refused c) h)
+
+-- the first piece of a name is read as the others are
+opened_as_quoted : (piece : Piece) (ps : List Piece) (b : Bool) (n : Text) (o : Operator) (v : Text) (ms : List Matcher) (rest : List ℕ) → is_piece piece ≡ true →
+    run (Some (reading b NameOpened n o v ms)) (pieces_text (piece ∷ ps) ++ rest) ≡ run (Some (reading b NameQuoted n o v ms)) (pieces_text (piece ∷ ps) ++ rest)
+unfolding step_from with_part
+opened_as_quoted (Character c) ps b n o v ms rest h =
+    ap (λ s. run (moved (reading b NameOpened n o v ms) s) (pieces_text ps ++ rest)) (quoted_plain c _ _ _ h)
+    ∙ sym (ap (λ s. run (moved (reading b NameQuoted n o v ms) s) (pieces_text ps ++ rest)) (quoted_plain c _ _ _ h))
+opened_as_quoted (Escape c) ps b n o v ms rest h = refl
 
 pub pieces_encoded : (t : Text) (piece : Piece) (ps : List Piece) → (t ++ encode_utf8_all (piece_value piece)) ++ encode_utf8_all (pieces_value ps) ≡ t ++ encode_utf8_all (pieces_value (piece ∷ ps))
 pieces_encoded t piece ps =
     append_assoc t (encode_utf8_all (piece_value piece)) (encode_utf8_all (pieces_value ps)) ∙ ap (λ e. t ++ e) (sym (encodes-append (piece_value piece) (pieces_value ps)))
 
-run_name_pieces : (ps : List Piece) (b : Bool) (n : Text) (o : Operator) (v : Text) (ms : List Matcher) (rest : List ℕ) → list_all is_piece ps ≡ true →
-    run (Some (reading b NameQuoted n o v ms)) (pieces_text ps ++ rest) ≡ run (Some (reading b NameQuoted (n ++ encode_utf8_all (pieces_value ps)) o v ms)) rest
-run_name_pieces [] b n o v ms rest h = ap (λ t. run (Some (reading b NameQuoted t o v ms)) rest) (sym (append-nil n))
-run_name_pieces (piece ∷ ps) b n o v ms rest h =
+-- over pieces, if each of them is added to the text that is read
+run_pieces : (at : Text → Reading)
+    → ((t : Text) (piece : Piece) (rest : List ℕ) → is_piece piece ≡ true → run (Some (at t)) (piece_text piece ++ rest) ≡ run (Some (at (t ++ encode_utf8_all (piece_value piece)))) rest) →
+    (ps : List Piece) (t : Text) (rest : List ℕ) → list_all is_piece ps ≡ true → run (Some (at t)) (pieces_text ps ++ rest) ≡ run (Some (at (t ++ encode_utf8_all (pieces_value ps)))) rest
+run_pieces at more [] t rest h = ap (λ s. run (Some (at s)) rest) (sym (append-nil t))
+run_pieces at more (piece ∷ ps) t rest h =
     let parts = and_parts (is_piece piece) (list_all is_piece ps) h in
-    ap (run (Some (reading b NameQuoted n o v ms))) (append_assoc (piece_text piece) (pieces_text ps) rest)
-    ∙ run_name_piece piece b NameQuoted n o v ms (pieces_text ps ++ rest) refl parts.0
-    ∙ run_name_pieces ps b (n ++ encode_utf8_all (piece_value piece)) o v ms rest parts.1
-    ∙ ap (λ t. run (Some (reading b NameQuoted t o v ms)) rest) (pieces_encoded n piece ps)
+    ap (run (Some (at t))) (append_assoc (piece_text piece) (pieces_text ps) rest)
+    ∙ more t piece (pieces_text ps ++ rest) parts.0 ∙ run_pieces at more ps (t ++ encode_utf8_all (piece_value piece)) rest parts.1
+    ∙ ap (λ s. run (Some (at s)) rest) (pieces_encoded t piece ps)
 
-run_value_pieces : (ps : List Piece) (b : Bool) (n : Text) (o : Operator) (v : Text) (ms : List Matcher) (rest : List ℕ) → list_all is_piece ps ≡ true →
-    run (Some (reading b ValueQuoted n o v ms)) (pieces_text ps ++ rest) ≡ run (Some (reading b ValueQuoted n o (v ++ encode_utf8_all (pieces_value ps)) ms)) rest
-run_value_pieces [] b n o v ms rest h = ap (λ t. run (Some (reading b ValueQuoted n o t ms)) rest) (sym (append-nil v))
-run_value_pieces (piece ∷ ps) b n o v ms rest h =
-    let parts = and_parts (is_piece piece) (list_all is_piece ps) h in
-    ap (run (Some (reading b ValueQuoted n o v ms))) (append_assoc (piece_text piece) (pieces_text ps) rest)
-    ∙ run_value_piece piece b n o v ms (pieces_text ps ++ rest) parts.0
-    ∙ run_value_pieces ps b n o (v ++ encode_utf8_all (piece_value piece)) ms rest parts.1
-    ∙ ap (λ t. run (Some (reading b ValueQuoted n o t ms)) rest) (pieces_encoded v piece ps)
+-- how a list of matchers ends: with the text outside braces, and with the closing one in them
+abbrev Ends : Bool → Reading → List Matcher → Type 0
+Ends false r out = matchers_at_end r ≡ Some out
+Ends true r out = (n : Text) × (o : Operator) × (v : Text) × (next r 125 ≡ Some (reading true Closed n o v out))
 
--- the states in which a matcher may begin: outside braces, in them, and after a comma
-abbrev begins : Bool → Mode → Bool
-begins b AfterComma = true
-begins false Start = true
-begins true Opened = true
-begins b _ = false
+-- a matcher may begin here, or the list may end
+abbrev Begins : Bool → Mode → Type 0
+Begins b p =
+    ((c : ℕ) → (step_at b p c Blank ≡ go p Nothing) × (step_at b p c Plain ≡ go NameLiteral (Name c)) × (step_at b p c Quote ≡ go NameOpened Nothing))
+    × ((o : Operator) (ms : List Matcher) → Ends b (reading b p [] o [] ms) ms)
+
+comma_begins : (b : Bool) → Begins b AfterComma
+unfolding kind_of begins_matcher step_from with_part ending
+comma_begins false = (λ c. (refl, refl, refl), λ o ms. refl)
+comma_begins true = (λ c. (refl, refl, refl), λ o ms. ([], o, [], refl))
 
 -- the states in which a name ends
 abbrev is_named : Mode → Bool
@@ -181,164 +130,107 @@ starts_value ValueStart = true
 starts_value _ = false
 
 abbrev ends_a_value : Mode → Bool
-ends_a_value AfterEquals = true
-ends_a_value ValueStart = true
 ends_a_value ValueLiteral = true
 ends_a_value AfterValue = true
-ends_a_value _ = false
+ends_a_value p = starts_value p
 
 -- from one state over some characters to another, and what is read there
 abbrev Leads : Reading → List ℕ → (Mode → Bool) → (Mode → Reading) → Type 0
 Leads r cs at target = (q : Mode) × (at q ≡ true) × ((rest : List ℕ) → run (Some r) (cs ++ rest) ≡ run (Some (target q)) rest)
 
-begun_literal : (b : Bool) (p : Mode) (o : Operator) (ms : List Matcher) (c : ℕ) → begins b p ≡ true → is_literal c ≡ true →
-    next (reading b p [] o [] ms) c ≡ Some (reading b NameLiteral (encode_utf8 c) o [] ms)
-unfolding begins_matcher at_start with_part
-begun_literal b AfterComma o ms c h l = advance (reading b AfterComma [] o [] ms) c Plain (kind_of_literal c l)
-begun_literal false Start o ms c h l = advance (reading false Start [] o [] ms) c Plain (kind_of_literal c l)
-begun_literal true Opened o ms c h l = advance (reading true Opened [] o [] ms) c Plain (kind_of_literal c l)
-begun_literal b _ o ms c h l = absurd (false≢true h)
-
-begun_quotes : (b : Bool) (p : Mode) (o : Operator) (ms : List Matcher) → begins b p ≡ true →
-    next (reading b p [] o [] ms) 34 ≡ Some (reading b NameOpened [] o [] ms)
-unfolding begins_matcher at_start with_part
-begun_quotes b AfterComma o ms h = advance (reading b AfterComma [] o [] ms) 34 Quote quote_kind
-begun_quotes false Start o ms h = advance (reading false Start [] o [] ms) 34 Quote quote_kind
-begun_quotes true Opened o ms h = advance (reading true Opened [] o [] ms) 34 Quote quote_kind
-begun_quotes b _ o ms h = absurd (false≢true h)
-
-begins_rests : (b : Bool) (p : Mode) → begins b p ≡ true → rests p ≡ true
-begins_rests b AfterComma h = refl
-begins_rests false Start h = refl
-begins_rests true Opened h = refl
-begins_rests b _ h = absurd (false≢true h)
-
-run_named : (b : Bool) (p : Mode) (o : Operator) (ms : List Matcher) (name : Term) → begins b p ≡ true → is_name name ≡ true →
+run_named : (b : Bool) (p : Mode) (o : Operator) (ms : List Matcher) (name : Term) → Begins b p → is_name name ≡ true →
     Leads (reading b p [] o [] ms) (term_text name) is_named (λ q. reading b q (encode_utf8_all (term_value name)) o [] ms)
-unfolding step_from with_part
+unfolding kind_of in_name step_from with_part
 run_named b p o ms (Literal []) h w = absurd (false≢true w)
 run_named b p o ms (Literal (c ∷ cs)) h w =
     let parts = and_parts (is_literal c) (list_all is_literal cs) w in (
       NameLiteral,
       refl,
       λ rest.
-          run_step (reading b p [] o [] ms) (reading b NameLiteral (encode_utf8 c) o [] ms) c (cs ++ rest) (begun_literal b p o ms c h parts.0)
-          ∙ run_name cs b (encode_utf8 c) o [] ms rest parts.1,
+          run_by (reading b p [] o [] ms) c Plain _ (cs ++ rest) (kind_of_literal c parts.0) (h.0 c).1
+          ∙ run_literal (λ t. reading b NameLiteral t o [] ms) (λ t d more l. run_by (reading b NameLiteral t o [] ms) d Plain _ more (kind_of_literal d l) refl) cs (encode_utf8 c) rest parts.1,
     )
 run_named b p o ms (Quoted []) h w = absurd (false≢true w)
-run_named b p o ms (Quoted (piece ∷ ps)) h w =
-    let parts = and_parts (is_piece piece) (list_all is_piece ps) w in
-    let closed : (rest : List ℕ) → (pieces_text (piece ∷ ps) ++ (34 ∷ [])) ++ rest ≡ piece_text piece ++ (pieces_text ps ++ (34 ∷ rest)) =
-    (λ rest. append_assoc (piece_text piece ++ pieces_text ps) (34 ∷ []) rest ∙ append_assoc (piece_text piece) (pieces_text ps) (34 ∷ rest)) in (
-      AfterName,
-      refl,
-      λ rest.
-          run_step (reading b p [] o [] ms) (reading b NameOpened [] o [] ms) 34 ((pieces_text (piece ∷ ps) ++ (34 ∷ [])) ++ rest) (begun_quotes b p o ms h)
-          ∙ ap (run (Some (reading b NameOpened [] o [] ms))) (closed rest)
-          ∙ run_name_piece piece b NameOpened [] o [] ms (pieces_text ps ++ (34 ∷ rest)) refl parts.0
-          ∙ run_name_pieces ps b (encode_utf8_all (piece_value piece)) o [] ms (34 ∷ rest) parts.1
-          ∙ ap (λ t. run (Some (reading b NameQuoted t o [] ms)) (34 ∷ rest)) (pieces_encoded [] piece ps),
-    )
+run_named b p o ms (Quoted (piece ∷ ps)) h w = (
+  AfterName,
+  refl,
+  λ rest.
+      run_by (reading b p [] o [] ms) 34 Quote _ ((pieces_text (piece ∷ ps) ++ (34 ∷ [])) ++ rest) refl (h.0 34).2
+      ∙ ap (run (Some (reading b NameOpened [] o [] ms))) (append_assoc (pieces_text (piece ∷ ps)) (34 ∷ []) rest)
+      ∙ opened_as_quoted piece ps b [] o [] ms (34 ∷ rest) (and_parts (is_piece piece) (list_all is_piece ps) w).0
+      ∙ run_pieces (λ t. reading b NameQuoted t o [] ms) (name_piece b o [] ms) (piece ∷ ps) [] (34 ∷ rest) w,
+)
 
 abbrev after_operator : Operator → Mode
 after_operator Equal = AfterEquals
-after_operator NotEqual = ValueStart
-after_operator Matches = ValueStart
-after_operator NotMatches = ValueStart
+after_operator _ = ValueStart
 
 after_operator-starts : (operator : Operator) → starts_value (after_operator operator) ≡ true
 after_operator-starts Equal = refl
-after_operator-starts NotEqual = refl
-after_operator-starts Matches = refl
-after_operator-starts NotMatches = refl
+after_operator-starts _ = refl
 
-operator_there : (operator : Operator) (b : Bool) (p : Mode) (n : Text) (o : Operator) (v : Text) (ms : List Matcher) (rest : List ℕ) → is_named p ≡ true →
+operator_there : (b : Bool) (p : Mode) (operator : Operator) (n : Text) (o : Operator) (v : Text) (ms : List Matcher) (rest : List ℕ) → is_named p ≡ true →
     run (Some (reading b p n o v ms)) (operator_text operator ++ rest) ≡ run (Some (reading b (after_operator operator) n operator v ms)) rest
 unfolding kind_of in_name after_name after_bang after_equals step_from with_part
-operator_there Equal b NameLiteral n o v ms rest h = refl
-operator_there NotEqual b NameLiteral n o v ms rest h = refl
-operator_there Matches b NameLiteral n o v ms rest h = refl
-operator_there NotMatches b NameLiteral n o v ms rest h = refl
-operator_there Equal b AfterName n o v ms rest h = refl
-operator_there NotEqual b AfterName n o v ms rest h = refl
-operator_there Matches b AfterName n o v ms rest h = refl
-operator_there NotMatches b AfterName n o v ms rest h = refl
-operator_there operator b _ n o v ms rest h = absurd (false≢true h)
+operator_there b NameLiteral Equal n o v ms rest h = refl
+operator_there b AfterName Equal n o v ms rest h = refl
+operator_there b _ operator n o v ms rest h = cc
 
-named_blank : (b : Bool) (p : Mode) (n : Text) (o : Operator) (v : Text) (ms : List Matcher) (c : ℕ) → is_named p ≡ true → is_whitespace c ≡ true →
-    next (reading b p n o v ms) c ≡ Some (reading b AfterName n o v ms)
-unfolding in_name after_name with_part
-named_blank b NameLiteral n o v ms c h w = advance (reading b NameLiteral n o v ms) c Blank (kind_of_blank c w)
-named_blank b AfterName n o v ms c h w = advance (reading b AfterName n o v ms) c Blank (kind_of_blank c w)
-named_blank b _ n o v ms c h w = absurd (false≢true h)
+named_blank : (b : Bool) (p : Mode) (c : ℕ) → is_named p ≡ true → step_at b p c Blank ≡ go AfterName Nothing
+unfolding in_name after_name
+named_blank b NameLiteral c h = refl
+named_blank b _ c h = cc
 
 run_operator : (space : List ℕ) (operator : Operator) (b : Bool) (p : Mode) (n : Text) (o : Operator) (v : Text) (ms : List Matcher) (rest : List ℕ) → is_named p ≡ true → is_blank space ≡ true →
     run (Some (reading b p n o v ms)) (space ++ (operator_text operator ++ rest)) ≡ run (Some (reading b (after_operator operator) n operator v ms)) rest
-run_operator [] operator b p n o v ms rest h w = operator_there operator b p n o v ms rest h
+unfolding after_name with_part
+run_operator [] operator b p n o v ms rest h w = operator_there b p operator n o v ms rest h
 run_operator (c ∷ space) operator b p n o v ms rest h w =
     let parts = and_parts (is_whitespace c) (list_all is_whitespace space) w in
-    run_step (reading b p n o v ms) (reading b AfterName n o v ms) c (space ++ (operator_text operator ++ rest)) (named_blank b p n o v ms c h parts.0)
-    ∙ run_blanks b AfterName n o v ms refl space (operator_text operator ++ rest) parts.1
-    ∙ operator_there operator b AfterName n o v ms rest refl
+    run_by (reading b p n o v ms) c Blank _ (space ++ (operator_text operator ++ rest)) (kind_of_blank c parts.0) (named_blank b p c h)
+    ∙ run_blanks (reading b AfterName n o v ms) (λ d. refl) space (operator_text operator ++ rest) parts.1
+    ∙ operator_there b AfterName operator n o v ms rest refl
 
-value_blank : (b : Bool) (p : Mode) (n : Text) (o : Operator) (v : Text) (ms : List Matcher) (c : ℕ) → starts_value p ≡ true → is_whitespace c ≡ true →
-    next (reading b p n o v ms) c ≡ Some (reading b ValueStart n o v ms)
-unfolding after_equals begins_value ends_value with_part
-value_blank b AfterEquals n o v ms c h w = advance (reading b AfterEquals n o v ms) c Blank (kind_of_blank c w)
-value_blank b ValueStart n o v ms c h w = advance (reading b ValueStart n o v ms) c Blank (kind_of_blank c w)
-value_blank b _ n o v ms c h w = absurd (false≢true h)
+-- where a value may begin
+started : (b : Bool) (p : Mode) (c : ℕ) → starts_value p ≡ true →
+    (step_at b p c Blank ≡ go ValueStart Nothing) × (step_at b p c Plain ≡ go ValueLiteral (Value c)) × (step_at b p c Quote ≡ go ValueQuoted Nothing) × (ends_a_value p ≡ true)
+unfolding after_equals begins_value ends_value
+started b AfterEquals c h = (refl, refl, refl, refl)
+started b _ c h = (cc, cc, cc, cc)
 
 lead_blanks : (space : List ℕ) (b : Bool) (p : Mode) (n : Text) (o : Operator) (v : Text) (ms : List Matcher) → starts_value p ≡ true → is_blank space ≡ true →
     Leads (reading b p n o v ms) space starts_value (λ q. reading b q n o v ms)
+unfolding begins_value ends_value with_part
 lead_blanks [] b p n o v ms h w = (p, h, λ rest. refl)
 lead_blanks (c ∷ space) b p n o v ms h w =
     let parts = and_parts (is_whitespace c) (list_all is_whitespace space) w in (
       ValueStart,
       refl,
       λ rest.
-          run_step (reading b p n o v ms) (reading b ValueStart n o v ms) c (space ++ rest) (value_blank b p n o v ms c h parts.0)
-          ∙ run_blanks b ValueStart n o v ms refl space rest parts.1,
+          run_by (reading b p n o v ms) c Blank _ (space ++ rest) (kind_of_blank c parts.0) (started b p c h).0
+          ∙ run_blanks (reading b ValueStart n o v ms) (λ d. refl) space rest parts.1,
     )
-
-starts-ends : (p : Mode) → starts_value p ≡ true → ends_a_value p ≡ true
-starts-ends AfterEquals h = refl
-starts-ends ValueStart h = refl
-starts-ends _ h = absurd (false≢true h)
-
-value_literal : (b : Bool) (p : Mode) (n : Text) (o : Operator) (v : Text) (ms : List Matcher) (c : ℕ) → starts_value p ≡ true → is_literal c ≡ true →
-    next (reading b p n o v ms) c ≡ Some (reading b ValueLiteral n o (v ++ encode_utf8 c) ms)
-unfolding after_equals begins_value with_part
-value_literal b AfterEquals n o v ms c h l = advance (reading b AfterEquals n o v ms) c Plain (kind_of_literal c l)
-value_literal b ValueStart n o v ms c h l = advance (reading b ValueStart n o v ms) c Plain (kind_of_literal c l)
-value_literal b _ n o v ms c h l = absurd (false≢true h)
-
-value_quotes : (b : Bool) (p : Mode) (n : Text) (o : Operator) (v : Text) (ms : List Matcher) → starts_value p ≡ true →
-    next (reading b p n o v ms) 34 ≡ Some (reading b ValueQuoted n o v ms)
-unfolding after_equals begins_value with_part
-value_quotes b AfterEquals n o v ms h = advance (reading b AfterEquals n o v ms) 34 Quote quote_kind
-value_quotes b ValueStart n o v ms h = advance (reading b ValueStart n o v ms) 34 Quote quote_kind
-value_quotes b _ n o v ms h = absurd (false≢true h)
 
 run_term : (value : Term) (b : Bool) (p : Mode) (n : Text) (o : Operator) (v : Text) (ms : List Matcher) → starts_value p ≡ true → is_term value ≡ true →
     Leads (reading b p n o v ms) (term_text value) ends_a_value (λ q. reading b q n o (v ++ encode_utf8_all (term_value value)) ms)
-unfolding step_from with_part
-run_term (Literal []) b p n o v ms h w = (p, starts-ends p h, λ rest. ap (λ t. run (Some (reading b p n o t ms)) rest) (sym (append-nil v)))
+unfolding kind_of in_value step_from with_part
+run_term (Literal []) b p n o v ms h w = (p, (started b p 0 h).3, λ rest. ap (λ t. run (Some (reading b p n o t ms)) rest) (sym (append-nil v)))
 run_term (Literal (c ∷ cs)) b p n o v ms h w =
     let parts = and_parts (is_literal c) (list_all is_literal cs) w in (
       ValueLiteral,
       refl,
       λ rest.
-          run_step (reading b p n o v ms) (reading b ValueLiteral n o (v ++ encode_utf8 c) ms) c (cs ++ rest) (value_literal b p n o v ms c h parts.0)
-          ∙ run_value cs b n o (v ++ encode_utf8 c) ms rest parts.1
+          run_by (reading b p n o v ms) c Plain _ (cs ++ rest) (kind_of_literal c parts.0) (started b p c h).1
+          ∙ run_literal (λ t. reading b ValueLiteral n o t ms) (λ t d more l. run_by (reading b ValueLiteral n o t ms) d Plain _ more (kind_of_literal d l) refl) cs (v ++ encode_utf8 c) rest parts.1
           ∙ ap (λ t. run (Some (reading b ValueLiteral n o t ms)) rest) (append_assoc v (encode_utf8 c) (encode_utf8_all cs)),
     )
 run_term (Quoted ps) b p n o v ms h w = (
   AfterValue,
   refl,
   λ rest.
-      run_step (reading b p n o v ms) (reading b ValueQuoted n o v ms) 34 ((pieces_text ps ++ (34 ∷ [])) ++ rest) (value_quotes b p n o v ms h)
+      run_by (reading b p n o v ms) 34 Quote _ ((pieces_text ps ++ (34 ∷ [])) ++ rest) refl (started b p 34 h).2
       ∙ ap (run (Some (reading b ValueQuoted n o v ms))) (append_assoc (pieces_text ps) (34 ∷ []) rest)
-      ∙ run_value_pieces ps b n o v ms (34 ∷ rest) w,
+      ∙ run_pieces (λ t. reading b ValueQuoted n o t ms) (value_piece b n o ms) ps v (34 ∷ rest) w,
 )
 
 abbrev after_space : Mode → Mode
@@ -346,46 +238,40 @@ after_space AfterEquals = ValueStart
 after_space ValueStart = ValueStart
 after_space p = AfterValue
 
-ended_blank : (b : Bool) (p : Mode) (n : Text) (o : Operator) (v : Text) (ms : List Matcher) (c : ℕ) → ends_a_value p ≡ true → is_whitespace c ≡ true →
-    next (reading b p n o v ms) c ≡ Some (reading b (after_space p) n o v ms)
-unfolding after_equals begins_value ends_value in_value with_part
-ended_blank b AfterEquals n o v ms c h w = advance (reading b AfterEquals n o v ms) c Blank (kind_of_blank c w)
-ended_blank b ValueStart n o v ms c h w = advance (reading b ValueStart n o v ms) c Blank (kind_of_blank c w)
-ended_blank b ValueLiteral n o v ms c h w = advance (reading b ValueLiteral n o v ms) c Blank (kind_of_blank c w)
-ended_blank b AfterValue n o v ms c h w = advance (reading b AfterValue n o v ms) c Blank (kind_of_blank c w)
-ended_blank b _ n o v ms c h w = absurd (false≢true h)
+-- where a value may end
+ended : (b : Bool) (p : Mode) (c : ℕ) → ends_a_value p ≡ true →
+    (step_at b p c Blank ≡ go (after_space p) Nothing) × (step_at b (after_space p) c Blank ≡ go (after_space p) Nothing) × (ends_a_value (after_space p) ≡ true)
+    × (step_at b p c Comma ≡ go AfterComma End)
+unfolding after_equals begins_value ends_value in_value
+ended b AfterEquals c h = (refl, refl, refl, refl)
+ended b _ c h = (cc, cc, cc, cc)
 
-after_space-rests : (p : Mode) → ends_a_value p ≡ true → rests (after_space p) ≡ true
-after_space-rests AfterEquals h = refl
-after_space-rests ValueStart h = refl
-after_space-rests ValueLiteral h = refl
-after_space-rests AfterValue h = refl
-after_space-rests _ h = absurd (false≢true h)
-
-after_space-ends : (p : Mode) → ends_a_value p ≡ true → ends_a_value (after_space p) ≡ true
-after_space-ends AfterEquals h = refl
-after_space-ends ValueStart h = refl
-after_space-ends ValueLiteral h = refl
-after_space-ends AfterValue h = refl
-after_space-ends _ h = absurd (false≢true h)
+value_ends : (b : Bool) (p : Mode) (n : Text) (o : Operator) (v : Text) (ms : List Matcher) → ends_a_value p ≡ true →
+    Ends b (reading b p n o v ms) (ms ++ record { name = n; operator = o; value = v } ∷ [])
+unfolding kind_of after_equals begins_value ends_value in_value step_from with_part ending
+value_ends false AfterEquals n o v ms h = refl
+value_ends true AfterEquals n o v ms h = ([], o, [], refl)
+value_ends false _ n o v ms h = cc
+value_ends true _ n o v ms h = ([], o, [], cc)
 
 trail_blanks : (space : List ℕ) (b : Bool) (p : Mode) (n : Text) (o : Operator) (v : Text) (ms : List Matcher) → ends_a_value p ≡ true → is_blank space ≡ true →
     Leads (reading b p n o v ms) space ends_a_value (λ q. reading b q n o v ms)
+unfolding with_part
 trail_blanks [] b p n o v ms h w = (p, h, λ rest. refl)
 trail_blanks (c ∷ space) b p n o v ms h w =
     let parts = and_parts (is_whitespace c) (list_all is_whitespace space) w in (
       after_space p,
-      after_space-ends p h,
+      (ended b p c h).2,
       λ rest.
-          run_step (reading b p n o v ms) (reading b (after_space p) n o v ms) c (space ++ rest) (ended_blank b p n o v ms c h parts.0)
-          ∙ run_blanks b (after_space p) n o v ms (after_space-rests p h) space rest parts.1,
+          run_by (reading b p n o v ms) c Blank _ (space ++ rest) (kind_of_blank c parts.0) (ended b p c h).0
+          ∙ run_blanks (reading b (after_space p) n o v ms) (λ d. (ended b p d h).1) space rest parts.1,
     )
 
 pub grouped : (a b c d e f g rest : List ℕ) → (a ++ (b ++ (c ++ (d ++ (e ++ (f ++ g)))))) ++ rest ≡ a ++ (b ++ (c ++ (d ++ (e ++ (f ++ (g ++ rest))))))
 grouped a b c d e f g rest = simp append_assoc
 
 -- a matcher
-run_written : (w : Written) (b : Bool) (p : Mode) (o : Operator) (ms : List Matcher) → begins b p ≡ true → IsWritten w →
+run_written : (w : Written) (b : Bool) (p : Mode) (o : Operator) (ms : List Matcher) → Begins b p → IsWritten w →
     Leads (reading b p [] o [] ms) (written_text w) ends_a_value (λ q. reading b q (encode_utf8_all (term_value w.name)) w.operator (encode_utf8_all (term_value w.value)) ms)
 run_written w b p o ms h is =
     let n = encode_utf8_all (term_value w.name) in
@@ -398,7 +284,7 @@ run_written w b p o ms h is =
       trail.1,
       λ rest.
           ap (run (Some (reading b p [] o [] ms))) (grouped w.before (term_text w.name) w.after_name (operator_text w.operator) w.before_value (term_text w.value) w.after rest)
-          ∙ run_blanks b p [] o [] ms (begins_rests b p h) w.before _ is.0
+          ∙ run_blanks (reading b p [] o [] ms) (λ c. (h.0 c).0) w.before _ is.0
           ∙ named.2 _
           ∙ run_operator w.after_name w.operator b named.0 n o [] ms _ named.1 is.2
           ∙ lead.2 _
@@ -406,50 +292,16 @@ run_written w b p o ms h is =
           ∙ trail.2 rest,
     )
 
--- how a list of matchers ends: with the text outside braces, and with the closing one in them
-abbrev Ends : Bool → Reading → List Matcher → Type 0
-Ends false r out = matchers_at_end r ≡ Some out
-Ends true r out = (n : Text) × (o : Operator) × (v : Text) × (next r 125 ≡ Some (reading true Closed n o v out))
-
-begun_ends : (b : Bool) (p : Mode) (o : Operator) (ms : List Matcher) → begins b p ≡ true → Ends b (reading b p [] o [] ms) ms
-unfolding kind_of begins_matcher step_from with_part ending
-begun_ends false AfterComma o ms h = refl
-begun_ends true AfterComma o ms h = ([], o, [], refl)
-begun_ends false Start o ms h = refl
-begun_ends true Opened o ms h = ([], o, [], refl)
-begun_ends b _ o ms h = absurd (false≢true h)
-
-value_ends : (b : Bool) (p : Mode) (n : Text) (o : Operator) (v : Text) (ms : List Matcher) → ends_a_value p ≡ true →
-    Ends b (reading b p n o v ms) (ms ++ record { name = n; operator = o; value = v } ∷ [])
-unfolding kind_of after_equals begins_value ends_value in_value step_from with_part ending
-value_ends false AfterEquals n o v ms h = refl
-value_ends false ValueStart n o v ms h = refl
-value_ends false ValueLiteral n o v ms h = refl
-value_ends false AfterValue n o v ms h = refl
-value_ends true AfterEquals n o v ms h = ([], o, [], refl)
-value_ends true ValueStart n o v ms h = ([], o, [], refl)
-value_ends true ValueLiteral n o v ms h = ([], o, [], refl)
-value_ends true AfterValue n o v ms h = ([], o, [], refl)
-value_ends b _ n o v ms h = absurd (false≢true h)
-
-value_comma : (b : Bool) (p : Mode) (n : Text) (o : Operator) (v : Text) (ms : List Matcher) → ends_a_value p ≡ true →
-    next (reading b p n o v ms) 44 ≡ Some (reading b AfterComma [] o [] (ms ++ record { name = n; operator = o; value = v } ∷ []))
-unfolding kind_of after_equals begins_value ends_value in_value step_from with_part
-value_comma b AfterEquals n o v ms h = refl
-value_comma b ValueStart n o v ms h = refl
-value_comma b ValueLiteral n o v ms h = refl
-value_comma b AfterValue n o v ms h = refl
-value_comma b _ n o v ms h = absurd (false≢true h)
-
 abbrev RunsOver : Bool → Reading → List ℕ → List Matcher → Type 0
 RunsOver b r cs out = (s : Reading) × Ends b s out × ((rest : List ℕ) → run (Some r) (cs ++ rest) ≡ run (Some s) rest)
 
-run_listed : (l : Listed) (b : Bool) (p : Mode) (o : Operator) (ms : List Matcher) → begins b p ≡ true → IsListed l →
+run_listed : (l : Listed) (b : Bool) (p : Mode) (o : Operator) (ms : List Matcher) → Begins b p → IsListed l →
     RunsOver b (reading b p [] o [] ms) (listed_text l) (ms ++ listed_matchers l)
+unfolding kind_of with_part
 run_listed (Alone space) b p o ms h is = (
   reading b p [] o [] ms,
-  subst (Ends b (reading b p [] o [] ms)) (sym (append-nil ms)) (begun_ends b p o ms h),
-  λ rest. run_blanks b p [] o [] ms (begins_rests b p h) space rest is,
+  subst (Ends b (reading b p [] o [] ms)) (sym (append-nil ms)) (h.1 o ms),
+  λ rest. run_blanks (reading b p [] o [] ms) (λ c. (h.0 c).0) space rest is,
 )
 run_listed (Last w) b p o ms h is =
     let n = encode_utf8_all (term_value w.name) in
@@ -461,36 +313,28 @@ run_listed (Then w l) b p o ms h is =
     let v = encode_utf8_all (term_value w.value) in
     let t = run_written w b p o ms h is.0 in
     let more = ms ++ written_matcher w ∷ [] in
-    let next_ones = run_listed l b AfterComma w.operator more refl is.1 in (
+    let next_ones = run_listed l b AfterComma w.operator more (comma_begins b) is.1 in (
       next_ones.0,
       subst (Ends b next_ones.0) (append_assoc ms (written_matcher w ∷ []) (listed_matchers l)) next_ones.1,
       λ rest.
           ap (run (Some (reading b p [] o [] ms))) (append_assoc (written_text w) (44 ∷ listed_text l) rest)
           ∙ t.2 (44 ∷ (listed_text l ++ rest))
-          ∙ run_step (reading b t.0 n w.operator v ms) (reading b AfterComma [] w.operator [] more) 44 (listed_text l ++ rest) (value_comma b t.0 n w.operator v ms t.1)
+          ∙ run_by (reading b t.0 n w.operator v ms) 44 Comma _ (listed_text l ++ rest) refl (ended b t.0 44 t.1).3
           ∙ next_ones.2 rest,
     )
 
-opens : (rest : List ℕ) → run (Some start) (123 ∷ rest) ≡ run (Some (reading true Opened [] Equal [] [])) rest
-unfolding kind_of at_start step_from with_part
-opens rest = refl
-
-closes : (n : Text) (o : Operator) (v : Text) (ms : List Matcher) → matchers_at_end (reading true Closed n o v ms) ≡ Some ms
-unfolding ending with_part
-closes n o v ms = refl
-
 whole_is_read : (whole : Whole) → IsWhole whole → matchers_of_chars (whole_text whole) ≡ Some (whole_matchers whole)
+unfolding kind_of begins_matcher at_start after_braces step_from with_part ending
 whole_is_read (Bare l) is =
-    let t = run_listed l false Start Equal [] refl is in
+    let t = run_listed l false Start Equal [] (λ c. (refl, refl, refl), λ o ms. refl) is in
     ap (option_and_then matchers_at_end) (ap (run (Some start)) (sym (append-nil (listed_text l))) ∙ t.2 []) ∙ t.1
 whole_is_read (Braced before l after) is =
-    let t = run_listed l true Opened Equal [] refl is.1 in
+    let t = run_listed l true Opened Equal [] (λ c. (refl, refl, refl), λ o ms. ([], o, [], refl)) is.1 in
     let e = t.1 in
     let shut = reading true Closed e.0 e.1 e.2 (listed_matchers l) in
     ap (option_and_then matchers_at_end)
-    (run_blanks false Start [] Equal [] [] refl before (123 ∷ (listed_text l ++ (125 ∷ after))) is.0 ∙ opens (listed_text l ++ (125 ∷ after)) ∙ t.2 (125 ∷ after) ∙ run_step t.0 shut 125 after e.3
-    ∙ ap (run (Some shut)) (sym (append-nil after)) ∙ run_blanks true Closed e.0 e.1 e.2 (listed_matchers l) refl after [] is.2)
-    ∙ closes e.0 e.1 e.2 (listed_matchers l)
+    (run_blanks start (λ c. refl) before (123 ∷ (listed_text l ++ (125 ∷ after))) is.0 ∙ t.2 (125 ∷ after) ∙ ap (λ o. run o after) e.3
+    ∙ ap (run (Some shut)) (sym (append-nil after)) ∙ run_blanks shut (λ c. refl) after [] is.2)
 
 pub spelled_are_read : (cs : List ℕ) (ms : List Matcher) → Spells cs ms → matchers_of_chars cs ≡ Some ms
 spelled_are_read cs ms (whole, is, same, out) = ap matchers_of_chars same ∙ whole_is_read whole is ∙ ap (λ (m : List Matcher). Some m) (sym out)
