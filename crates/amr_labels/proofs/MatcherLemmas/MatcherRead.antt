@@ -66,13 +66,23 @@ abbrev FollowsValue : Bool → List Matcher → List ℕ → List Matcher → Ty
 FollowsValue b ms cs out =
     (space : List ℕ) × (more : Option Listed) × (back : List ℕ) × (is_blank space ≡ true) × IsMore more × (cs ≡ space ++ (more_text more ++ back)) × Back b back × (out ≡ ms ++ more_matchers more)
 
-abbrev InValue : Bool → Text → Operator → Text → List Matcher → List ℕ → List Matcher → Type 0
-InValue b n o v ms cs out =
-    (literal : List ℕ) × (rest : List ℕ) × (list_all is_literal literal ≡ true) × (cs ≡ literal ++ rest) × FollowsValue b (with_matcher ms n o (v ++ encode_utf8_all literal)) rest out
+-- where P follows a text with what was read: after more characters of a literal, after pieces in
+-- quotes, and after at least one piece
+abbrev AfterLiteral : (Text → List ℕ → Type 0) → Text → List ℕ → Type 0
+AfterLiteral P t cs =
+    (literal : List ℕ) × (rest : List ℕ) × (list_all is_literal literal ≡ true) × (cs ≡ literal ++ rest) × P (t ++ encode_utf8_all literal) rest
 
-abbrev InValueQuotes : Bool → Text → Operator → Text → List Matcher → List ℕ → List Matcher → Type 0
-InValueQuotes b n o v ms cs out =
-    (ps : List Piece) × (rest : List ℕ) × (list_all is_piece ps ≡ true) × (cs ≡ pieces_text ps ++ (34 ∷ rest)) × FollowsValue b (with_matcher ms n o (v ++ encode_utf8_all (pieces_value ps))) rest out
+abbrev AfterPieces : (Text → List ℕ → Type 0) → Text → List ℕ → Type 0
+AfterPieces P t cs =
+    (ps : List Piece) × (rest : List ℕ) × (list_all is_piece ps ≡ true) × (cs ≡ pieces_text ps ++ (34 ∷ rest)) × P (t ++ encode_utf8_all (pieces_value ps)) rest
+
+abbrev AfterPiece : (Text → List ℕ → Type 0) → Text → List ℕ → Type 0
+AfterPiece P t cs =
+    (piece : Piece) × (ps : List Piece) × (rest : List ℕ) × (list_all is_piece (piece ∷ ps) ≡ true) × (cs ≡ pieces_text (piece ∷ ps) ++ (34 ∷ rest)) × P (t ++ encode_utf8_all (pieces_value (piece ∷ ps))) rest
+
+-- after a value
+abbrev ByValue : Bool → Text → Operator → List Matcher → List Matcher → Text → List ℕ → Type 0
+ByValue b n o ms out v cs = FollowsValue b (with_matcher ms n o v) cs out
 
 abbrev FollowsOperator : Bool → Text → Operator → Text → List Matcher → List ℕ → List Matcher → Type 0
 FollowsOperator b n o v ms cs out =
@@ -82,20 +92,12 @@ abbrev FollowsName : Bool → Text → Text → List Matcher → List ℕ → Li
 FollowsName b n v ms cs out =
     (space : List ℕ) × (operator : Operator) × (rest : List ℕ) × (is_blank space ≡ true) × (cs ≡ space ++ (operator_text operator ++ rest)) × FollowsOperator b n operator v ms rest out
 
-abbrev InName : Bool → Text → Text → List Matcher → List ℕ → List Matcher → Type 0
-InName b n v ms cs out =
-    (literal : List ℕ) × (rest : List ℕ) × (list_all is_literal literal ≡ true) × (cs ≡ literal ++ rest) × FollowsName b (n ++ encode_utf8_all literal) v ms rest out
+-- after a name
+abbrev ByName : Bool → Text → List Matcher → List Matcher → Text → List ℕ → Type 0
+ByName b v ms out n cs = FollowsName b n v ms cs out
 
-abbrev InNameQuotes : Bool → Text → Text → List Matcher → List ℕ → List Matcher → Type 0
-InNameQuotes b n v ms cs out =
-    (ps : List Piece) × (rest : List ℕ) × (list_all is_piece ps ≡ true) × (cs ≡ pieces_text ps ++ (34 ∷ rest)) × FollowsName b (n ++ encode_utf8_all (pieces_value ps)) v ms rest out
-
-abbrev FirstInNameQuotes : Bool → Text → Text → List Matcher → List ℕ → List Matcher → Type 0
-FirstInNameQuotes b n v ms cs out =
-    (piece : Piece) × (ps : List Piece) × (rest : List ℕ) × (list_all is_piece (piece ∷ ps) ≡ true) × (cs ≡ pieces_text (piece ∷ ps) ++ (34 ∷ rest)) × FollowsName b (n ++ encode_utf8_all (pieces_value (piece ∷ ps))) v ms rest out
-
-abbrev FollowsBackslash : (ℕ → List ℕ → Type 0) → List ℕ → Type 0
-FollowsBackslash P cs = (c : ℕ) × (rest : List ℕ) × (cs ≡ c ∷ rest) × (is_refused c ≡ false) × P c rest
+abbrev FollowsBackslash : (Text → List ℕ → Type 0) → Text → List ℕ → Type 0
+FollowsBackslash P t cs = (c : ℕ) × (rest : List ℕ) × (cs ≡ c ∷ rest) × (is_refused c ≡ false) × AfterPieces P (t ++ encode_utf8_all (meaning_of_escape c)) rest
 
 abbrev FollowsEither : ℕ → (List ℕ → Type 0) → ℕ → (List ℕ → Type 0) → List ℕ → Type 0
 FollowsEither c P d Q cs = ((rest : List ℕ) × (cs ≡ c ∷ rest) × P rest) ⊎ ((rest : List ℕ) × (cs ≡ d ∷ rest) × Q rest)
@@ -108,17 +110,17 @@ FollowsBraces ms cs out =
 abbrev Follows : Bool → Mode → Text → Operator → Text → List Matcher → List ℕ → List Matcher → Type 0
 Follows b Start n o v ms cs out = b ≡ false → n ≡ [] → v ≡ [] → FollowsListed false ms cs out ⊎ FollowsBraces ms cs out
 Follows b Opened n o v ms cs out = b ≡ true → n ≡ [] → v ≡ [] → FollowsListed true ms cs out
-Follows b NameLiteral n o v ms cs out = InName b n v ms cs out
-Follows b NameOpened n o v ms cs out = FirstInNameQuotes b n v ms cs out
-Follows b NameQuoted n o v ms cs out = InNameQuotes b n v ms cs out
-Follows b NameEscape n o v ms cs out = FollowsBackslash (λ c rest. InNameQuotes b (n ++ encode_utf8_all (meaning_of_escape c)) v ms rest out) cs
+Follows b NameLiteral n o v ms cs out = AfterLiteral (ByName b v ms out) n cs
+Follows b NameOpened n o v ms cs out = AfterPiece (ByName b v ms out) n cs
+Follows b NameQuoted n o v ms cs out = AfterPieces (ByName b v ms out) n cs
+Follows b NameEscape n o v ms cs out = FollowsBackslash (ByName b v ms out) n cs
 Follows b AfterName n o v ms cs out = FollowsName b n v ms cs out
 Follows b AfterBang n o v ms cs out = FollowsEither 61 (λ rest. FollowsOperator b n NotEqual v ms rest out) 126 (λ rest. FollowsOperator b n NotMatches v ms rest out) cs
 Follows b AfterEquals n o v ms cs out = ((rest : List ℕ) × (cs ≡ 126 ∷ rest) × FollowsOperator b n Matches v ms rest out) ⊎ FollowsOperator b n o v ms cs out
 Follows b ValueStart n o v ms cs out = FollowsOperator b n o v ms cs out
-Follows b ValueLiteral n o v ms cs out = InValue b n o v ms cs out
-Follows b ValueQuoted n o v ms cs out = InValueQuotes b n o v ms cs out
-Follows b ValueEscape n o v ms cs out = FollowsBackslash (λ c rest. InValueQuotes b n o (v ++ encode_utf8_all (meaning_of_escape c)) ms rest out) cs
+Follows b ValueLiteral n o v ms cs out = AfterLiteral (ByValue b n o ms out) v cs
+Follows b ValueQuoted n o v ms cs out = AfterPieces (ByValue b n o ms out) v cs
+Follows b ValueEscape n o v ms cs out = FollowsBackslash (ByValue b n o ms out) v cs
 Follows b AfterValue n o v ms cs out = FollowsValue b (with_matcher ms n o v) cs out
 Follows b AfterComma n o v ms cs out = n ≡ [] → v ≡ [] → FollowsListed b ms cs out
 Follows b Closed n o v ms cs out = (is_blank cs ≡ true) × (out ≡ ms)
@@ -145,26 +147,56 @@ spaced_listed b ms c cs out h (Then w l, back, is, e, end, same) =
 assembled : (b : Bool) (ms : List Matcher) (name : Term) (cs rest : List ℕ) (out : List Matcher) → is_name name ≡ true → cs ≡ term_text name ++ rest →
     FollowsName b (encode_utf8_all (term_value name)) [] ms rest out → FollowsListed b ms cs out
 assembled b ms name cs rest out is e (s1, operator, r2, b1, e2, (s2, value, r3, b2, t, e3, (s3, None, back, b3, m, e4, end, same))) =
-    let w : Written = record { before = []; name = name; after_name = s1; operator = operator; before_value = s2; value = value; after = s3 } in (
-      Last w,
-      back,
-      (refl, is, b1, b2, t, b3),
-      e ∙ ap (λ x. term_text name ++ x) (e2 ∙ ap (λ x. s1 ++ (operator_text operator ++ x)) (e3 ∙ ap (λ x. s2 ++ (term_text value ++ x)) e4))
-          ∙ sym (grouped [] (term_text name) s1 (operator_text operator) s2 (term_text value) s3 back),
-      end,
-      same ∙ append-nil (ms ++ written_matcher w ∷ []),
-    )
+    let w : Written = record { before = []; name = name; after_name = s1; operator = operator; before_value = s2; value = value; after = s3 } in
+    (Last w, back, (refl, is, b1, b2, t, b3), rw (e, e2, e3, e4) (simp append_assoc), end, same ∙ append-nil (ms ++ written_matcher w ∷ []))
 assembled b ms name cs rest out is e (s1, operator, r2, b1, e2, (s2, value, r3, b2, t, e3, (s3, Some l, back, b3, m, e4, end, same))) =
-    let w : Written = record { before = []; name = name; after_name = s1; operator = operator; before_value = s2; value = value; after = s3 } in (
-      Then w l,
-      back,
-      ((refl, is, b1, b2, t, b3), m),
-      e ∙ ap (λ x. term_text name ++ x) (e2 ∙ ap (λ x. s1 ++ (operator_text operator ++ x)) (e3 ∙ ap (λ x. s2 ++ (term_text value ++ x)) e4))
-          ∙ sym (grouped [] (term_text name) s1 (operator_text operator) s2 (term_text value) s3 (44 ∷ (listed_text l ++ back)))
-          ∙ sym (append_assoc (written_text w) (44 ∷ listed_text l) back),
-      end,
-      same ∙ append_assoc ms (written_matcher w ∷ []) (listed_matchers l),
-    )
+    let w : Written = record { before = []; name = name; after_name = s1; operator = operator; before_value = s2; value = value; after = s3 } in
+    (Then w l, back, ((refl, is, b1, b2, t, b3), m), rw (e, e2, e3, e4) (simp append_assoc), end, same ∙ append_assoc ms (written_matcher w ∷ []) (listed_matchers l))
+
+-- what comes in front of a literal or of pieces
+module _ (P : Text → List ℕ → Type 0) (t : Text) where
+  no_literal : (cs : List ℕ) → P t cs → AfterLiteral P t cs
+  no_literal cs f = ([], cs, refl, refl, subst (λ s. P s cs) (sym (append-nil t)) f)
+
+  literal_first : (c : ℕ) (cs : List ℕ) → is_literal c ≡ true → AfterLiteral P (t ++ encode_utf8 c) cs → AfterLiteral P t (c ∷ cs)
+  literal_first c cs is f = (
+    c ∷ f.0,
+    f.1,
+    and_from (is_literal c) (list_all is_literal f.0) is f.2,
+    ap (λ x. c ∷ x) f.3,
+    subst (λ s. P s f.1) (append_assoc t (encode_utf8 c) (encode_utf8_all f.0)) f.4,
+  )
+
+  no_pieces : (c : ℕ) (cs : List ℕ) → c ≡ 34 → P t cs → AfterPieces P t (c ∷ cs)
+  no_pieces c cs e f = ([], cs, refl, cons_same c 34 cs cs e refl, subst (λ s. P s cs) (sym (append-nil t)) f)
+
+  some_pieces : (cs : List ℕ) → AfterPiece P t cs → AfterPieces P t cs
+  some_pieces cs f = (f.0 ∷ f.1, f.2, f.3, f.4, f.5)
+
+  -- in quotes: a quote, a backslash, or a character that stands for itself
+  quoted : (r : Reading) (ended plain : Option Step) (escape : Mode) (c : ℕ) (cs : List ℕ) (out : List Matcher) (q s : Bool) → (c == 34) ≡ q → (c == 92) ≡ s →
+      Taken r (if q then ended else (if s then go escape Nothing else plain)) cs out →
+      (Taken r (go escape Nothing) cs out → FollowsBackslash P t cs) → (Taken r plain cs out → AfterPieces P (t ++ encode_utf8 c) cs) →
+      ((c ≡ 34) × Taken r ended cs out) ⊎ AfterPiece P t (c ∷ cs)
+  quoted r ended plain escape c cs out true s e f h escaped more = inl (eqb-true c 34 e, h)
+  quoted r ended plain escape c cs out false true e f h escaped more =
+      let g = escaped h in inr (
+        Escape g.0,
+        g.4.0,
+        g.4.1,
+        and_from (not (is_refused g.0)) (list_all is_piece g.4.0) (ap not g.3) g.4.2,
+        cons_same c 92 cs _ (eqb-true c 92 f) (g.2 ∙ ap (λ x. g.0 ∷ x) g.4.3),
+        subst (λ x. P x g.4.1) (pieces_encoded t (Escape g.0) g.4.0) g.4.4,
+      )
+  quoted r ended plain escape c cs out false false e f h escaped more =
+      let g = more h in inr (
+        Character c,
+        g.0,
+        g.1,
+        and_from (is_piece (Character c)) (list_all is_piece g.0) (rw (e, f) refl) g.2,
+        ap (λ x. c ∷ x) g.3,
+        subst (λ x. P x g.1) (append_assoc t (encode_utf8 c) (encode_utf8_all (pieces_value g.0))) g.4,
+      )
 
 -- where a matcher may begin
 begun : (b : Bool) (here : Mode) (o : Operator) (ms : List Matcher) (c : ℕ) (cs : List ℕ) (out : List Matcher) (k : Kind) → Known cs → kind_of c ≡ k →
@@ -179,7 +211,6 @@ begun b here o ms c cs out Quote known e h =
 begun true here o ms c cs out Closing known e h =
     let f = known true Closed [] o [] ms out h in
     inr (Alone [], c ∷ cs, refl, refl, (cs, cons_same c 125 cs cs (means c Closing e) refl, f.0), f.1 ∙ sym (append-nil ms))
-begun false here o ms c cs out Closing known e h = absurd (refused (reading false here [] o [] ms) cs out h)
 begun b here o ms c cs out Plain known e h =
     let f = known b NameLiteral (encode_utf8 c) o [] ms out h in
     inr (assembled b ms (Literal (c ∷ f.0)) (c ∷ cs) f.1 out (and_from (is_literal c) (list_all is_literal f.0) (means c Plain e) f.2) (ap (λ t. c ∷ t) f.3) f.4)
@@ -230,7 +261,6 @@ value_ended b here space n o v ms c cs out Comma known e h =
 value_ended true here space n o v ms c cs out Closing known e h =
     let f = known true Closed [] o [] (with_matcher ms n o v) out h in
     inr ([], None, c ∷ cs, refl, tt, refl, (cs, cons_same c 125 cs cs (means c Closing e) refl, f.0), f.1 ∙ sym (append-nil (with_matcher ms n o v)))
-value_ended false here space n o v ms c cs out Closing known e h = absurd (refused (reading false here n o v ms) cs out h)
 value_ended b here space n o v ms c cs out _ known e h = absurd (refused (reading b here n o v ms) cs out h)
 
 after_value : (b : Bool) (here : Mode) (n : Text) (o : Operator) (v : Text) (ms : List Matcher) (c : ℕ) (cs : List ℕ) (out : List Matcher) (k : Kind) → Known cs → kind_of c ≡ k →
@@ -241,22 +271,15 @@ after_value b here n o v ms c cs out k known e h =
       | inl g ↦ spaced_value b (with_matcher ms n o v) c cs out g.0 (known b AfterValue n o v ms out g.1)
     ]
 
-same_value : (b : Bool) (n : Text) (o : Operator) (v w : Text) (ms : List Matcher) (cs : List ℕ) (out : List Matcher) → v ≡ w → FollowsValue b (with_matcher ms n o v) cs out → FollowsValue b (with_matcher ms n o w) cs out
-same_value b n o v w ms cs out e f = subst (λ t. FollowsValue b (with_matcher ms n o t) cs out) e f
-
 in_literal_value : (b : Bool) (n : Text) (o : Operator) (v : Text) (ms : List Matcher) (c : ℕ) (cs : List ℕ) (out : List Matcher) (k : Kind) → Known cs → kind_of c ≡ k →
-    Taken (reading b ValueLiteral n o v ms) (in_value b c k) cs out → InValue b n o v ms (c ∷ cs) out
+    Taken (reading b ValueLiteral n o v ms) (in_value b c k) cs out → AfterLiteral (ByValue b n o ms out) v (c ∷ cs)
 unfolding in_value with_part
-in_literal_value b n o v ms c cs out Plain known e h =
-    let f = known b ValueLiteral n o (v ++ encode_utf8 c) ms out h in (
-      c ∷ f.0,
-      f.1,
-      and_from (is_literal c) (list_all is_literal f.0) (means c Plain e) f.2,
-      ap (λ t. c ∷ t) f.3,
-      same_value b n o _ _ ms f.1 out (append_assoc v (encode_utf8 c) (encode_utf8_all f.0)) f.4,
-    )
-in_literal_value b n o v ms c cs out k known e h =
-    ([], c ∷ cs, refl, refl, same_value b n o _ _ ms (c ∷ cs) out (sym (append-nil v)) (after_value b ValueLiteral n o v ms c cs out k known e h))
+in_literal_value b n o v ms c cs out Plain known e h = literal_first (ByValue b n o ms out) v c cs (means c Plain e) (known b ValueLiteral n o (v ++ encode_utf8 c) ms out h)
+in_literal_value b n o v ms c cs out k known e h = no_literal (ByValue b n o ms out) v (c ∷ cs) (after_value b ValueLiteral n o v ms c cs out k known e h)
+
+-- a literal as a value
+literal_value : (b : Bool) (n : Text) (o : Operator) (v : Text) (ms : List Matcher) (cs : List ℕ) (out : List Matcher) → AfterLiteral (ByValue b n o ms out) v cs → FollowsOperator b n o v ms cs out
+literal_value b n o v ms cs out f = ([], Literal f.0, f.1, refl, f.2, f.3, f.4)
 
 -- where a value may begin
 value_begun : (b : Bool) (here : Mode) (n : Text) (o : Operator) (v : Text) (ms : List Matcher) (c : ℕ) (cs : List ℕ) (out : List Matcher) (k : Kind) → Known cs → kind_of c ≡ k →
@@ -266,18 +289,10 @@ value_begun b here n o v ms c cs out Quote known e h =
     let f = known b ValueQuoted n o v ms out h in
     ([], Quoted f.0, f.1, refl, f.2, cons_same c 34 cs _ (means c Quote e) (f.3 ∙ sym (append_assoc (pieces_text f.0) (34 ∷ []) f.1)), f.4)
 value_begun b here n o v ms c cs out Plain known e h =
-    let f = known b ValueLiteral n o (v ++ encode_utf8 c) ms out h in (
-      [],
-      Literal (c ∷ f.0),
-      f.1,
-      refl,
-      and_from (is_literal c) (list_all is_literal f.0) (means c Plain e) f.2,
-      ap (λ t. c ∷ t) f.3,
-      same_value b n o _ _ ms f.1 out (append_assoc v (encode_utf8 c) (encode_utf8_all f.0)) f.4,
-    )
+    literal_value b n o v ms (c ∷ cs) out (literal_first (ByValue b n o ms out) v c cs (means c Plain e) (known b ValueLiteral n o (v ++ encode_utf8 c) ms out h))
 value_begun b here n o v ms c cs out k known e h =
     elim (value_ended b here ValueStart n o v ms c cs out k known e h) [
-      | inr g ↦ ([], Literal [], c ∷ cs, refl, refl, refl, same_value b n o _ _ ms (c ∷ cs) out (sym (append-nil v)) g)
+      | inr g ↦ literal_value b n o v ms (c ∷ cs) out (no_literal (ByValue b n o ms out) v (c ∷ cs) g)
       | inl g ↦
           let f = known b ValueStart n o v ms out g.1 in
           (c ∷ f.0, f.1, f.2, spaced c f.0 g.0 f.3, f.4, ap (λ t. c ∷ t) f.5, f.6)
@@ -315,128 +330,46 @@ name_ended b here n o v ms c cs out Bang known e h =
     ]
 name_ended b here n o v ms c cs out _ known e h = absurd (refused (reading b here n o v ms) cs out h)
 
-same_name : (b : Bool) (n m v : Text) (ms : List Matcher) (cs : List ℕ) (out : List Matcher) → n ≡ m → FollowsName b n v ms cs out → FollowsName b m v ms cs out
-same_name b n m v ms cs out e f = subst (λ t. FollowsName b t v ms cs out) e f
-
 in_literal_name : (b : Bool) (n : Text) (o : Operator) (v : Text) (ms : List Matcher) (c : ℕ) (cs : List ℕ) (out : List Matcher) (k : Kind) → Known cs → kind_of c ≡ k →
-    Taken (reading b NameLiteral n o v ms) (in_name c k) cs out → InName b n v ms (c ∷ cs) out
+    Taken (reading b NameLiteral n o v ms) (in_name c k) cs out → AfterLiteral (ByName b v ms out) n (c ∷ cs)
 unfolding in_name with_part
-in_literal_name b n o v ms c cs out Plain known e h =
-    let f = known b NameLiteral (n ++ encode_utf8 c) o v ms out h in (
-      c ∷ f.0,
-      f.1,
-      and_from (is_literal c) (list_all is_literal f.0) (means c Plain e) f.2,
-      ap (λ t. c ∷ t) f.3,
-      same_name b _ _ v ms f.1 out (append_assoc n (encode_utf8 c) (encode_utf8_all f.0)) f.4,
-    )
-in_literal_name b n o v ms c cs out k known e h =
-    ([], c ∷ cs, refl, refl, same_name b _ _ v ms (c ∷ cs) out (sym (append-nil n)) (name_ended b NameLiteral n o v ms c cs out k known e h))
-
--- in quotes: a quote, a backslash, or a character that stands for itself
-data Inside (ended escape plain : Type 0) (c : ℕ) : Type 0 where
-  AtQuote : c ≡ 34 → ended → Inside ended escape plain c
-  AtBackslash : c ≡ 92 → escape → Inside ended escape plain c
-  AtCharacter : is_piece (Character c) ≡ true → plain → Inside ended escape plain c
-
-inside : (r : Reading) (ended_step plain_step : Option Step) (escape : Mode) (c : ℕ) (cs : List ℕ) (out : List Matcher) (q s : Bool) → (c == 34) ≡ q → (c == 92) ≡ s →
-    Taken r (if q then ended_step else (if s then go escape Nothing else plain_step)) cs out →
-    Inside (Taken r ended_step cs out) (Taken r (go escape Nothing) cs out) (Taken r plain_step cs out) c
-inside r ended_step plain_step escape c cs out true s e f h = AtQuote (eqb-true c 34 e) h
-inside r ended_step plain_step escape c cs out false true e f h = AtBackslash (eqb-true c 92 f) h
-inside r ended_step plain_step escape c cs out false false e f h = AtCharacter (rw (e, f) refl) h
-
--- a piece in front
-escape_first : (c d : ℕ) (cs rest : List ℕ) (ps : List Piece) (more : List ℕ) → c ≡ 92 → cs ≡ d ∷ rest → rest ≡ pieces_text ps ++ (34 ∷ more) → c ∷ cs ≡ pieces_text (Escape d ∷ ps) ++ (34 ∷ more)
-escape_first c d cs rest ps more e f g = cons_same c 92 cs _ e (f ∙ ap (λ t. d ∷ t) g)
-
-escape_good : (d : ℕ) (ps : List Piece) → is_refused d ≡ false → list_all is_piece ps ≡ true → list_all is_piece (Escape d ∷ ps) ≡ true
-escape_good d ps e h = and_from (not (is_refused d)) (list_all is_piece ps) (ap not e) h
+in_literal_name b n o v ms c cs out Plain known e h = literal_first (ByName b v ms out) n c cs (means c Plain e) (known b NameLiteral (n ++ encode_utf8 c) o v ms out h)
+in_literal_name b n o v ms c cs out k known e h = no_literal (ByName b v ms out) n (c ∷ cs) (name_ended b NameLiteral n o v ms c cs out k known e h)
 
 in_quoted_name : (b : Bool) (n : Text) (o : Operator) (v : Text) (ms : List Matcher) (c : ℕ) (cs : List ℕ) (out : List Matcher) → Known cs →
-    Taken (reading b NameQuoted n o v ms) (in_quotes (go AfterName Nothing) NameEscape (go NameQuoted (Name c)) c) cs out → InNameQuotes b n v ms (c ∷ cs) out
+    Taken (reading b NameQuoted n o v ms) (in_quotes (go AfterName Nothing) NameEscape (go NameQuoted (Name c)) c) cs out → AfterPieces (ByName b v ms out) n (c ∷ cs)
 unfolding with_part
 in_quoted_name b n o v ms c cs out known h =
-    elim (inside (reading b NameQuoted n o v ms) (go AfterName Nothing) (go NameQuoted (Name c)) NameEscape c cs out (c == 34) (c == 92) refl refl h) [
-      | AtQuote e g ↦ ([], cs, refl, cons_same c 34 cs cs e refl, same_name b _ _ v ms cs out (sym (append-nil n)) (known b AfterName n o v ms out g))
-      | AtBackslash e g ↦
-          let f = known b NameEscape n o v ms out g in (
-            Escape f.0 ∷ f.4.0,
-            f.4.1,
-            escape_good f.0 f.4.0 f.3 f.4.2,
-            escape_first c f.0 cs f.1 f.4.0 f.4.1 e f.2 f.4.3,
-            same_name b _ _ v ms f.4.1 out (pieces_encoded n (Escape f.0) f.4.0) f.4.4,
-          )
-      | AtCharacter e g ↦
-          let f = known b NameQuoted (n ++ encode_utf8 c) o v ms out g in (
-            Character c ∷ f.0,
-            f.1,
-            and_from (is_piece (Character c)) (list_all is_piece f.0) e f.2,
-            ap (λ t. c ∷ t) f.3,
-            same_name b _ _ v ms f.1 out (append_assoc n (encode_utf8 c) (encode_utf8_all (pieces_value f.0))) f.4,
-          )
+    elim (quoted (ByName b v ms out) n (reading b NameQuoted n o v ms) (go AfterName Nothing) (go NameQuoted (Name c)) NameEscape c cs out (c == 34) (c == 92) refl refl h
+    (known b NameEscape n o v ms out) (known b NameQuoted (n ++ encode_utf8 c) o v ms out)) [
+      | inl g ↦ no_pieces (ByName b v ms out) n c cs g.0 (known b AfterName n o v ms out g.1)
+      | inr g ↦ some_pieces (ByName b v ms out) n (c ∷ cs) g
     ]
 
 first_in_quoted_name : (b : Bool) (n : Text) (o : Operator) (v : Text) (ms : List Matcher) (c : ℕ) (cs : List ℕ) (out : List Matcher) → Known cs →
-    Taken (reading b NameOpened n o v ms) (in_quotes None NameEscape (go NameQuoted (Name c)) c) cs out → FirstInNameQuotes b n v ms (c ∷ cs) out
+    Taken (reading b NameOpened n o v ms) (in_quotes None NameEscape (go NameQuoted (Name c)) c) cs out → AfterPiece (ByName b v ms out) n (c ∷ cs)
 unfolding with_part
 first_in_quoted_name b n o v ms c cs out known h =
-    elim (inside (reading b NameOpened n o v ms) None (go NameQuoted (Name c)) NameEscape c cs out (c == 34) (c == 92) refl refl h) [
-      | AtQuote e g ↦ absurd (refused (reading b NameOpened n o v ms) cs out g)
-      | AtBackslash e g ↦
-          let f = known b NameEscape n o v ms out g in (
-            Escape f.0,
-            f.4.0,
-            f.4.1,
-            escape_good f.0 f.4.0 f.3 f.4.2,
-            escape_first c f.0 cs f.1 f.4.0 f.4.1 e f.2 f.4.3,
-            same_name b _ _ v ms f.4.1 out (pieces_encoded n (Escape f.0) f.4.0) f.4.4,
-          )
-      | AtCharacter e g ↦
-          let f = known b NameQuoted (n ++ encode_utf8 c) o v ms out g in (
-            Character c,
-            f.0,
-            f.1,
-            and_from (is_piece (Character c)) (list_all is_piece f.0) e f.2,
-            ap (λ t. c ∷ t) f.3,
-            same_name b _ _ v ms f.1 out (append_assoc n (encode_utf8 c) (encode_utf8_all (pieces_value f.0))) f.4,
-          )
+    elim (quoted (ByName b v ms out) n (reading b NameOpened n o v ms) None (go NameQuoted (Name c)) NameEscape c cs out (c == 34) (c == 92) refl refl h
+    (known b NameEscape n o v ms out) (known b NameQuoted (n ++ encode_utf8 c) o v ms out)) [
+      | inl g ↦ absurd (refused (reading b NameOpened n o v ms) cs out g.1)
+      | inr g ↦ g
     ]
 
 in_quoted_value : (b : Bool) (n : Text) (o : Operator) (v : Text) (ms : List Matcher) (c : ℕ) (cs : List ℕ) (out : List Matcher) → Known cs →
-    Taken (reading b ValueQuoted n o v ms) (in_quotes (go AfterValue Nothing) ValueEscape (go ValueQuoted (Value c)) c) cs out → InValueQuotes b n o v ms (c ∷ cs) out
+    Taken (reading b ValueQuoted n o v ms) (in_quotes (go AfterValue Nothing) ValueEscape (go ValueQuoted (Value c)) c) cs out → AfterPieces (ByValue b n o ms out) v (c ∷ cs)
 unfolding with_part
 in_quoted_value b n o v ms c cs out known h =
-    elim (inside (reading b ValueQuoted n o v ms) (go AfterValue Nothing) (go ValueQuoted (Value c)) ValueEscape c cs out (c == 34) (c == 92) refl refl h) [
-      | AtQuote e g ↦ ([], cs, refl, cons_same c 34 cs cs e refl, same_value b n o _ _ ms cs out (sym (append-nil v)) (known b AfterValue n o v ms out g))
-      | AtBackslash e g ↦
-          let f = known b ValueEscape n o v ms out g in (
-            Escape f.0 ∷ f.4.0,
-            f.4.1,
-            escape_good f.0 f.4.0 f.3 f.4.2,
-            escape_first c f.0 cs f.1 f.4.0 f.4.1 e f.2 f.4.3,
-            same_value b n o _ _ ms f.4.1 out (pieces_encoded v (Escape f.0) f.4.0) f.4.4,
-          )
-      | AtCharacter e g ↦
-          let f = known b ValueQuoted n o (v ++ encode_utf8 c) ms out g in (
-            Character c ∷ f.0,
-            f.1,
-            and_from (is_piece (Character c)) (list_all is_piece f.0) e f.2,
-            ap (λ t. c ∷ t) f.3,
-            same_value b n o _ _ ms f.1 out (append_assoc v (encode_utf8 c) (encode_utf8_all (pieces_value f.0))) f.4,
-          )
+    elim (quoted (ByValue b n o ms out) v (reading b ValueQuoted n o v ms) (go AfterValue Nothing) (go ValueQuoted (Value c)) ValueEscape c cs out (c == 34) (c == 92) refl refl h
+    (known b ValueEscape n o v ms out) (known b ValueQuoted n o (v ++ encode_utf8 c) ms out)) [
+      | inl g ↦ no_pieces (ByValue b n o ms out) v c cs g.0 (known b AfterValue n o v ms out g.1)
+      | inr g ↦ some_pieces (ByValue b n o ms out) v (c ∷ cs) g
     ]
 
-escaped_name : (b : Bool) (n : Text) (o : Operator) (v : Text) (ms : List Matcher) (c : ℕ) (cs : List ℕ) (out : List Matcher) (q : Bool) → Known cs → is_refused c ≡ q →
-    Taken (reading b NameEscape n o v ms) (if q then None else go NameQuoted (NameEscaped c)) cs out → Follows b NameEscape n o v ms (c ∷ cs) out
-unfolding with_part
-escaped_name b n o v ms c cs out true known e h = absurd (refused (reading b NameEscape n o v ms) cs out h)
-escaped_name b n o v ms c cs out false known e h = (c, cs, refl, e, known b NameQuoted (n ++ encode_utf8_all (meaning_of_escape c)) o v ms out h)
-
-escaped_value : (b : Bool) (n : Text) (o : Operator) (v : Text) (ms : List Matcher) (c : ℕ) (cs : List ℕ) (out : List Matcher) (q : Bool) → Known cs → is_refused c ≡ q →
-    Taken (reading b ValueEscape n o v ms) (if q then None else go ValueQuoted (ValueEscaped c)) cs out → Follows b ValueEscape n o v ms (c ∷ cs) out
-unfolding with_part
-escaped_value b n o v ms c cs out true known e h = absurd (refused (reading b ValueEscape n o v ms) cs out h)
-escaped_value b n o v ms c cs out false known e h = (c, cs, refl, e, known b ValueQuoted n o (v ++ encode_utf8_all (meaning_of_escape c)) ms out h)
+-- after a backslash
+escaped : (r : Reading) (step : Option Step) (c : ℕ) (cs : List ℕ) (out : List Matcher) (q : Bool) → is_refused c ≡ q → Taken r (if q then None else step) cs out → (is_refused c ≡ false) × Taken r step cs out
+escaped r step c cs out true e h = absurd (refused r cs out h)
+escaped r step c cs out false e h = (e, h)
 
 from_closed : (b : Bool) (n : Text) (o : Operator) (v : Text) (ms : List Matcher) (c : ℕ) (cs : List ℕ) (out : List Matcher) (k : Kind) → Known cs → kind_of c ≡ k →
     Taken (reading b Closed n o v ms) (after_braces k) cs out → Follows b Closed n o v ms (c ∷ cs) out
@@ -446,32 +379,32 @@ from_closed b n o v ms c cs out Blank known e h =
     (spaced c cs (means c Blank e) f.0, f.1)
 from_closed b n o v ms c cs out _ known e h = absurd (refused (reading b Closed n o v ms) cs out h)
 
-none_is_not : (out : List Matcher) → ◌≡◌ {A = Option (List Matcher)} None (Some out) → ⊥
-none_is_not out e = cc
-
 same_end : (ms out : List Matcher) → ◌≡◌ {A = Option (List Matcher)} (Some ms) (Some out) → out ≡ ms
 same_end ms out e = cc
 
 -- at the end of the text
+listed_over : (ms out : List Matcher) → ◌≡◌ {A = Option (List Matcher)} (Some ms) (Some out) → FollowsListed false ms [] out
+listed_over ms out e = (Alone [], [], refl, refl, refl, same_end ms out e ∙ sym (append-nil ms))
+
+value_over : (ms out : List Matcher) → ◌≡◌ {A = Option (List Matcher)} (Some ms) (Some out) → FollowsValue false ms [] out
+value_over ms out e = ([], None, [], refl, tt, refl, refl, same_end ms out e ∙ sym (append-nil ms))
+
 at_end : Known []
 unfolding ending with_part
-at_end b Start n o v ms out h = λ f g k. inl (Alone [], [], refl, refl, refl, same_end ms out h ∙ sym (append-nil ms))
+at_end b Start n o v ms out h = λ f g k. inl (listed_over ms out h)
 at_end b Closed n o v ms out h = (refl, same_end ms out h)
-at_end false AfterComma n o v ms out h = λ g k. (Alone [], [], refl, refl, refl, same_end ms out h ∙ sym (append-nil ms))
-at_end false AfterEquals n o v ms out h =
-    inr ([], Literal [], [], refl, refl, refl, same_value false n o _ _ ms [] out (sym (append-nil v)) ([], None, [], refl, tt, refl, refl, same_end (with_matcher ms n o v) out h ∙ sym (append-nil (with_matcher ms n o v))))
-at_end false ValueStart n o v ms out h =
-    ([], Literal [], [], refl, refl, refl, same_value false n o _ _ ms [] out (sym (append-nil v)) ([], None, [], refl, tt, refl, refl, same_end (with_matcher ms n o v) out h ∙ sym (append-nil (with_matcher ms n o v))))
-at_end false ValueLiteral n o v ms out h =
-    ([], [], refl, refl, same_value false n o _ _ ms [] out (sym (append-nil v)) ([], None, [], refl, tt, refl, refl, same_end (with_matcher ms n o v) out h ∙ sym (append-nil (with_matcher ms n o v))))
-at_end false AfterValue n o v ms out h = ([], None, [], refl, tt, refl, refl, same_end (with_matcher ms n o v) out h ∙ sym (append-nil (with_matcher ms n o v)))
-at_end b _ n o v ms out h = absurd (none_is_not out h)
+at_end false AfterComma n o v ms out h = λ g k. listed_over ms out h
+at_end false AfterEquals n o v ms out h = inr (literal_value false n o v ms [] out (no_literal (ByValue false n o ms out) v [] (value_over (with_matcher ms n o v) out h)))
+at_end false ValueStart n o v ms out h = literal_value false n o v ms [] out (no_literal (ByValue false n o ms out) v [] (value_over (with_matcher ms n o v) out h))
+at_end false ValueLiteral n o v ms out h = no_literal (ByValue false n o ms out) v [] (value_over (with_matcher ms n o v) out h)
+at_end false AfterValue n o v ms out h = value_over (with_matcher ms n o v) out h
+at_end b _ n o v ms out h = absurd (refused (reading b Start n o v ms) [] out h)
 
 cleared : (P : Text → Text → Type 0) (n v : Text) → n ≡ [] → v ≡ [] → P n v → P [] []
 cleared P n v e f h = subst (P []) f (subst (λ t. P t v) e h)
 
 one_more : (c : ℕ) (cs : List ℕ) → Known cs → Known (c ∷ cs)
-unfolding step_from
+unfolding step_from with_part
 one_more c cs known b Start n o v ms out h = λ f g k.
     from_start b o ms c cs out (kind_of c) known refl f (cleared (λ x y. Taken (reading b Start x o y ms) (at_start c (kind_of c)) cs out) n v g k h)
 one_more c cs known b Opened n o v ms out h = λ f g k.
@@ -479,14 +412,18 @@ one_more c cs known b Opened n o v ms out h = λ f g k.
 one_more c cs known b NameLiteral n o v ms out h = in_literal_name b n o v ms c cs out (kind_of c) known refl h
 one_more c cs known b NameOpened n o v ms out h = first_in_quoted_name b n o v ms c cs out known h
 one_more c cs known b NameQuoted n o v ms out h = in_quoted_name b n o v ms c cs out known h
-one_more c cs known b NameEscape n o v ms out h = escaped_name b n o v ms c cs out (is_refused c) known refl h
+one_more c cs known b NameEscape n o v ms out h =
+    let g = escaped (reading b NameEscape n o v ms) (go NameQuoted (NameEscaped c)) c cs out (is_refused c) refl h in
+    (c, cs, refl, g.0, known b NameQuoted (n ++ encode_utf8_all (meaning_of_escape c)) o v ms out g.1)
 one_more c cs known b AfterName n o v ms out h = name_ended b AfterName n o v ms c cs out (kind_of c) known refl h
 one_more c cs known b AfterBang n o v ms out h = bang_read b n o v ms c cs out (kind_of c) known refl h
 one_more c cs known b AfterEquals n o v ms out h = equals_read b n o v ms c cs out (kind_of c) known refl h
 one_more c cs known b ValueStart n o v ms out h = value_begun b ValueStart n o v ms c cs out (kind_of c) known refl h
 one_more c cs known b ValueLiteral n o v ms out h = in_literal_value b n o v ms c cs out (kind_of c) known refl h
 one_more c cs known b ValueQuoted n o v ms out h = in_quoted_value b n o v ms c cs out known h
-one_more c cs known b ValueEscape n o v ms out h = escaped_value b n o v ms c cs out (is_refused c) known refl h
+one_more c cs known b ValueEscape n o v ms out h =
+    let g = escaped (reading b ValueEscape n o v ms) (go ValueQuoted (ValueEscaped c)) c cs out (is_refused c) refl h in
+    (c, cs, refl, g.0, known b ValueQuoted n o (v ++ encode_utf8_all (meaning_of_escape c)) ms out g.1)
 one_more c cs known b AfterValue n o v ms out h = after_value b AfterValue n o v ms c cs out (kind_of c) known refl h
 one_more c cs known b AfterComma n o v ms out h = λ g k.
     from_comma b o ms c cs out (kind_of c) known refl (cleared (λ x y. Taken (reading b AfterComma x o y ms) (begins_matcher b AfterComma c (kind_of c)) cs out) n v g k h)
