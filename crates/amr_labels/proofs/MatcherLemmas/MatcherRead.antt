@@ -232,21 +232,13 @@ from_start false o ms c cs out k known e f h =
       ]
     ]
 
-from_opened : (b : Bool) (o : Operator) (ms : List Matcher) (c : ℕ) (cs : List ℕ) (out : List Matcher) (k : Kind) → Known cs → kind_of c ≡ k → b ≡ true →
-    Taken (reading b Opened [] o [] ms) (begins_matcher true Opened c k) cs out → FollowsListed true ms (c ∷ cs) out
-from_opened false o ms c cs out k known e f h = absurd (false≢true f)
-from_opened true o ms c cs out k known e f h =
-    elim (begun true Opened o ms c cs out k known e h) [
+-- white space goes on, or a matcher begins
+listed_begun : (b : Bool) (here : Mode) (o : Operator) (ms : List Matcher) (c : ℕ) (cs : List ℕ) (out : List Matcher) (k : Kind) → Known cs → kind_of c ≡ k →
+    (Accepts (reading b here [] o [] ms) cs out → FollowsListed b ms cs out) → Taken (reading b here [] o [] ms) (begins_matcher b here c k) cs out → FollowsListed b ms (c ∷ cs) out
+listed_begun b here o ms c cs out k known e later h =
+    elim (begun b here o ms c cs out k known e h) [
       | inr g ↦ g
-      | inl g ↦ spaced_listed true ms c cs out g.0 (known true Opened [] o [] ms out g.1 refl refl refl)
-    ]
-
-from_comma : (b : Bool) (o : Operator) (ms : List Matcher) (c : ℕ) (cs : List ℕ) (out : List Matcher) (k : Kind) → Known cs → kind_of c ≡ k →
-    Taken (reading b AfterComma [] o [] ms) (begins_matcher b AfterComma c k) cs out → FollowsListed b ms (c ∷ cs) out
-from_comma b o ms c cs out k known e h =
-    elim (begun b AfterComma o ms c cs out k known e h) [
-      | inr g ↦ g
-      | inl g ↦ spaced_listed b ms c cs out g.0 (known b AfterComma [] o [] ms out g.1 refl refl)
+      | inl g ↦ spaced_listed b ms c cs out g.0 (later g.1)
     ]
 
 -- where a value ends
@@ -336,36 +328,6 @@ unfolding in_name with_part
 in_literal_name b n o v ms c cs out Plain known e h = literal_first (ByName b v ms out) n c cs (means c Plain e) (known b NameLiteral (n ++ encode_utf8 c) o v ms out h)
 in_literal_name b n o v ms c cs out k known e h = no_literal (ByName b v ms out) n (c ∷ cs) (name_ended b NameLiteral n o v ms c cs out k known e h)
 
-in_quoted_name : (b : Bool) (n : Text) (o : Operator) (v : Text) (ms : List Matcher) (c : ℕ) (cs : List ℕ) (out : List Matcher) → Known cs →
-    Taken (reading b NameQuoted n o v ms) (in_quotes (go AfterName Nothing) NameEscape (go NameQuoted (Name c)) c) cs out → AfterPieces (ByName b v ms out) n (c ∷ cs)
-unfolding with_part
-in_quoted_name b n o v ms c cs out known h =
-    elim (quoted (ByName b v ms out) n (reading b NameQuoted n o v ms) (go AfterName Nothing) (go NameQuoted (Name c)) NameEscape c cs out (c == 34) (c == 92) refl refl h
-    (known b NameEscape n o v ms out) (known b NameQuoted (n ++ encode_utf8 c) o v ms out)) [
-      | inl g ↦ no_pieces (ByName b v ms out) n c cs g.0 (known b AfterName n o v ms out g.1)
-      | inr g ↦ some_pieces (ByName b v ms out) n (c ∷ cs) g
-    ]
-
-first_in_quoted_name : (b : Bool) (n : Text) (o : Operator) (v : Text) (ms : List Matcher) (c : ℕ) (cs : List ℕ) (out : List Matcher) → Known cs →
-    Taken (reading b NameOpened n o v ms) (in_quotes None NameEscape (go NameQuoted (Name c)) c) cs out → AfterPiece (ByName b v ms out) n (c ∷ cs)
-unfolding with_part
-first_in_quoted_name b n o v ms c cs out known h =
-    elim (quoted (ByName b v ms out) n (reading b NameOpened n o v ms) None (go NameQuoted (Name c)) NameEscape c cs out (c == 34) (c == 92) refl refl h
-    (known b NameEscape n o v ms out) (known b NameQuoted (n ++ encode_utf8 c) o v ms out)) [
-      | inl g ↦ absurd (refused (reading b NameOpened n o v ms) cs out g.1)
-      | inr g ↦ g
-    ]
-
-in_quoted_value : (b : Bool) (n : Text) (o : Operator) (v : Text) (ms : List Matcher) (c : ℕ) (cs : List ℕ) (out : List Matcher) → Known cs →
-    Taken (reading b ValueQuoted n o v ms) (in_quotes (go AfterValue Nothing) ValueEscape (go ValueQuoted (Value c)) c) cs out → AfterPieces (ByValue b n o ms out) v (c ∷ cs)
-unfolding with_part
-in_quoted_value b n o v ms c cs out known h =
-    elim (quoted (ByValue b n o ms out) v (reading b ValueQuoted n o v ms) (go AfterValue Nothing) (go ValueQuoted (Value c)) ValueEscape c cs out (c == 34) (c == 92) refl refl h
-    (known b ValueEscape n o v ms out) (known b ValueQuoted n o (v ++ encode_utf8 c) ms out)) [
-      | inl g ↦ no_pieces (ByValue b n o ms out) v c cs g.0 (known b AfterValue n o v ms out g.1)
-      | inr g ↦ some_pieces (ByValue b n o ms out) v (c ∷ cs) g
-    ]
-
 -- after a backslash
 escaped : (r : Reading) (step : Option Step) (c : ℕ) (cs : List ℕ) (out : List Matcher) (q : Bool) → is_refused c ≡ q → Taken r (if q then None else step) cs out → (is_refused c ≡ false) × Taken r step cs out
 escaped r step c cs out true e h = absurd (refused r cs out h)
@@ -407,11 +369,23 @@ one_more : (c : ℕ) (cs : List ℕ) → Known cs → Known (c ∷ cs)
 unfolding step_from with_part
 one_more c cs known b Start n o v ms out h = λ f g k.
     from_start b o ms c cs out (kind_of c) known refl f (cleared (λ x y. Taken (reading b Start x o y ms) (at_start c (kind_of c)) cs out) n v g k h)
-one_more c cs known b Opened n o v ms out h = λ f g k.
-    from_opened b o ms c cs out (kind_of c) known refl f (cleared (λ x y. Taken (reading b Opened x o y ms) (begins_matcher true Opened c (kind_of c)) cs out) n v g k h)
+one_more c cs known false Opened n o v ms out h = λ f g k. absurd (false≢true f)
+one_more c cs known true Opened n o v ms out h = λ f g k.
+    listed_begun true Opened o ms c cs out (kind_of c) known refl (λ a. known true Opened [] o [] ms out a refl refl refl)
+    (cleared (λ x y. Taken (reading true Opened x o y ms) (begins_matcher true Opened c (kind_of c)) cs out) n v g k h)
 one_more c cs known b NameLiteral n o v ms out h = in_literal_name b n o v ms c cs out (kind_of c) known refl h
-one_more c cs known b NameOpened n o v ms out h = first_in_quoted_name b n o v ms c cs out known h
-one_more c cs known b NameQuoted n o v ms out h = in_quoted_name b n o v ms c cs out known h
+one_more c cs known b NameOpened n o v ms out h =
+    elim (quoted (ByName b v ms out) n (reading b NameOpened n o v ms) None (go NameQuoted (Name c)) NameEscape c cs out (c == 34) (c == 92) refl refl h
+    (known b NameEscape n o v ms out) (known b NameQuoted (n ++ encode_utf8 c) o v ms out)) [
+      | inl g ↦ absurd (refused (reading b NameOpened n o v ms) cs out g.1)
+      | inr g ↦ g
+    ]
+one_more c cs known b NameQuoted n o v ms out h =
+    elim (quoted (ByName b v ms out) n (reading b NameQuoted n o v ms) (go AfterName Nothing) (go NameQuoted (Name c)) NameEscape c cs out (c == 34) (c == 92) refl refl h
+    (known b NameEscape n o v ms out) (known b NameQuoted (n ++ encode_utf8 c) o v ms out)) [
+      | inl g ↦ no_pieces (ByName b v ms out) n c cs g.0 (known b AfterName n o v ms out g.1)
+      | inr g ↦ some_pieces (ByName b v ms out) n (c ∷ cs) g
+    ]
 one_more c cs known b NameEscape n o v ms out h =
     let g = escaped (reading b NameEscape n o v ms) (go NameQuoted (NameEscaped c)) c cs out (is_refused c) refl h in
     (c, cs, refl, g.0, known b NameQuoted (n ++ encode_utf8_all (meaning_of_escape c)) o v ms out g.1)
@@ -420,13 +394,19 @@ one_more c cs known b AfterBang n o v ms out h = bang_read b n o v ms c cs out (
 one_more c cs known b AfterEquals n o v ms out h = equals_read b n o v ms c cs out (kind_of c) known refl h
 one_more c cs known b ValueStart n o v ms out h = value_begun b ValueStart n o v ms c cs out (kind_of c) known refl h
 one_more c cs known b ValueLiteral n o v ms out h = in_literal_value b n o v ms c cs out (kind_of c) known refl h
-one_more c cs known b ValueQuoted n o v ms out h = in_quoted_value b n o v ms c cs out known h
+one_more c cs known b ValueQuoted n o v ms out h =
+    elim (quoted (ByValue b n o ms out) v (reading b ValueQuoted n o v ms) (go AfterValue Nothing) (go ValueQuoted (Value c)) ValueEscape c cs out (c == 34) (c == 92) refl refl h
+    (known b ValueEscape n o v ms out) (known b ValueQuoted n o (v ++ encode_utf8 c) ms out)) [
+      | inl g ↦ no_pieces (ByValue b n o ms out) v c cs g.0 (known b AfterValue n o v ms out g.1)
+      | inr g ↦ some_pieces (ByValue b n o ms out) v (c ∷ cs) g
+    ]
 one_more c cs known b ValueEscape n o v ms out h =
     let g = escaped (reading b ValueEscape n o v ms) (go ValueQuoted (ValueEscaped c)) c cs out (is_refused c) refl h in
     (c, cs, refl, g.0, known b ValueQuoted n o (v ++ encode_utf8_all (meaning_of_escape c)) ms out g.1)
 one_more c cs known b AfterValue n o v ms out h = after_value b AfterValue n o v ms c cs out (kind_of c) known refl h
 one_more c cs known b AfterComma n o v ms out h = λ g k.
-    from_comma b o ms c cs out (kind_of c) known refl (cleared (λ x y. Taken (reading b AfterComma x o y ms) (begins_matcher b AfterComma c (kind_of c)) cs out) n v g k h)
+    listed_begun b AfterComma o ms c cs out (kind_of c) known refl (λ a. known b AfterComma [] o [] ms out a refl refl)
+    (cleared (λ x y. Taken (reading b AfterComma x o y ms) (begins_matcher b AfterComma c (kind_of c)) cs out) n v g k h)
 one_more c cs known b Closed n o v ms out h = from_closed b n o v ms c cs out (kind_of c) known refl h
 
 followed : (cs : List ℕ) → Known cs
