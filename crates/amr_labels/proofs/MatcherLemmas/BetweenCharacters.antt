@@ -1,6 +1,6 @@
 -- A search of bytes, and the same search of a text, in which nothing is found that begins inside a character.
-use Rattle.std.proofs.Common.{◌≡◌, ℕ, ◌+◌, ◌<◌, ◌≤◌, true, false, List, length, Option, Some, None, is_some, option_map, refl, sym, ap, ap₂, ◌∙◌, subst, ⊎_elim, arith, IsCharBoundary}
-use Rattle.std.proofs.lemmas.Bool.{cases_Bool}
+use Rattle.std.proofs.Common.{◌≡◌, ℕ, ◌+◌, ◌<◌, ◌≤◌, true, false, List, length, Option, Some, None, is_some, option_map, Bool, Decides, true≢false, refl, sym, ap, ap₂, ◌∙◌, subst, arith, IsCharBoundary}
+use Rattle.std.proofs.lemmas.Bool.{false_from_ne_true}
 use Rattle.regex_hir.specs.Text.{is_boundary}
 use Rattle.regex_hir.specs.Find.{find}
 use Rattle.regex_meta.specs.Programs.{pattern_of}
@@ -31,20 +31,21 @@ module _ (re : Re) (hay : List ℕ) (at : ℕ) where
         ap is_some (leftmost_here re hay true at match_of.0 match_of.1
         (λ _. ap (is_boundary hay) begins ∙ test_of_IsCharBoundary hay from whole))
 
-    pub found_within : (at ≤ from) × (from ≤ length hay)
+    found_within : (at ≤ from) × (from ≤ length hay)
     found_within = let within = leftmost_within re hay false at match_of.0 match_of.1 in omega (arith, begins)
 
-    is_inside : (IsCharBoundary hay from → ⊥) → is_boundary hay match_of.0.start ≡ false
-    is_inside inside =
-        ⊎_elim
-        (λ (cut : is_boundary hay match_of.0.start ≡ true).
-        absurd (inside (IsCharBoundary-of_test hay from found_within.1 (ap (is_boundary hay) (sym begins) ∙ cut))))
-        (λ (no_cut : is_boundary hay match_of.0.start ≡ false). no_cut)
-        (cases_Bool (is_boundary hay match_of.0.start))
-
-    pub found_inside : (IsCharBoundary hay from → ⊥) → (from < length hay) × (find_str re hay at ≡ find_str re hay (from + 1))
+    found_inside : (IsCharBoundary hay from → ⊥) → (from < length hay) × (find_str re hay at ≡ find_str re hay (from + 1))
     found_inside inside =
-        let no_cut = is_inside inside in (
+        let no_cut = false_from_ne_true (is_boundary hay match_of.0.start) (λ cut. inside (IsCharBoundary-of_test hay from found_within.1 (ap (is_boundary hay) (sym begins) ∙ cut))) in (
           subst (λ i. i < length hay) begins (inside_char re hay match_of.0.start no_cut),
           leftmost_retry re hay true at match_of.0 refl match_of.1 no_cut ∙ ap (λ i. find_str re hay (i + 1)) begins,
         )
+
+-- after what begins inside a character the search of a text goes on
+pub goes_on : (same program : Program) (bytes hay : List ℕ) (at from end : ℕ) (whole : Bool) → same ≡ program → bytes ≡ hay
+    → Some (from, end) ≡ option_map span (find (pattern_of same) bytes at) → Decides whole (IsCharBoundary hay from) → whole ≡ false
+    → (at ≤ from) × (from < length hay) × (find_str (pattern_of program) hay at ≡ find_str (pattern_of program) hay (from + 1))
+goes_on same program bytes hay at from end whole is text found test inside =
+    let some = found_in same program bytes hay at (Some (from, end)) is text found in
+    let later = found_inside (pattern_of program) hay at from end some (λ cut. true≢false (sym (test.1 cut) ∙ inside)) in
+    ((found_within (pattern_of program) hay at from end some).0, later.0, later.1)
