@@ -10,14 +10,12 @@ use Rattle.amr_labels.proofs.keyed_texts.KeyedTexts.has_entries.Goals as goal
 pub returns-then-self-stated-clause-equal : goal.returns-then-self-stated-clause-equal
 returns-then-self-stated-clause-equal c joined =
     let texts = c.self.inside.texts in
-    let mine = subst (λ found. IfSome found (λ key. (string_bytes key ≡ sort_key (entries texts)) × (has_zeros (entries texts) ≡ false)))
-    c.in-Some.is c.self.invariant.0 in
+    let mine = rw c.in-Some.is at c.self.invariant.0 in
     let count : length (entries texts) ≡ length (lent_texts c.args.stated.now) = sym c.self.invariant.5 ∙ c.if-self-stated.true ∙ sym (length-map c.args.stated.now _) in
     ap entries (sym c.self.view_is)
     ∙ of_sort_key (entries texts) (lent_texts c.args.stated.now) mine.1 count (sym mine.0 ∙ sym c.as_str.ensures.value ∙ c.is_joined.ensures.equal joined)
 
 pub returns-then-self-stated-clause-other : goal.returns-then-self-stated-clause-other
 returns-then-self-stated-clause-other c joined same =
-    let key_is = subst (λ found. IfSome found (λ key. (string_bytes key ≡ sort_key (entries c.self.inside.texts)) × (has_zeros (entries c.self.inside.texts) ≡ false)))
-    c.in-Some.is c.self.invariant.0 in
+    let key_is = rw c.in-Some.is at c.self.invariant.0 in
     c.is_joined.ensures.other joined (c.as_str.ensures.value ∙ key_is.0 ∙ ap (λ texts. sort_key (entries texts)) c.self.view_is ∙ ap sort_key same)

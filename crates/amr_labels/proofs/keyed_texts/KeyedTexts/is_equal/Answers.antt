@@ -11,12 +11,8 @@ use Rattle.amr_labels.proofs.keyed_texts.KeyedTexts.is_equal.Goals as goal
 -- both keys are those of the texts, by the invariant
 pub returns-in-Some-Some : goal.returns-in-Some-Some
 returns-in-Some-Some c =
-    let mine = subst (λ found. IfSome found (λ key.
-    (string_bytes key ≡ sort_key (entries c.self.inside.texts)) × (has_zeros (entries c.self.inside.texts) ≡ false)))
-    c.in-Some-Some.is-0 c.self.invariant.0 in
-    let others = subst (λ found. IfSome found (λ key.
-    (string_bytes key ≡ sort_key (entries c.other.inside.texts)) × (has_zeros (entries c.other.inside.texts) ≡ false)))
-    c.in-Some-Some.is-1 c.other.invariant.0 in
+    let mine = rw c.in-Some-Some.is-0 at c.self.invariant.0 in
+    let others = rw c.in-Some-Some.is-1 at c.other.invariant.0 in
     c.eq.ensures
     ∙ same_texts c.as_str.result.now c.as_str-in-Some-Some.result.now
     ∙ (λ i. eq_by_cmp text_cmp (c.as_str.ensures.value i) (c.as_str-in-Some-Some.ensures.value i))

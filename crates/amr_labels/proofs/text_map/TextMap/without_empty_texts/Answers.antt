@@ -9,7 +9,7 @@ use Rattle.amr_labels.proofs.text_map.TextMap.without_empty_texts.Goals as goal
 pub of_sorted-requires : goal.of_sorted-requires
 of_sorted-requires c =
     sorted_where_key nat_list_cmp_total c.args.self.now _ _
-    (c.in_ok-kept.ensures ∙ ap (filter (λ (pair : Text × Text). not (is_empty pair.1))) c.entries-2.ensures ∙ filter_by_values nat_list_cmp_total c.args.self.now (λ text. not (is_empty text)) [])
+    (rw c.entries-2.ensures at c.in_ok-kept.ensures ∙ filter_by_values nat_list_cmp_total c.args.self.now (λ text. not (is_empty text)) [])
 
 pub returns-then-are_filled : goal.returns-then-are_filled
 returns-then-are_filled c =
@@ -20,5 +20,5 @@ returns-then-are_filled c =
 pub returns : goal.returns
 returns c =
     IfOk-weaker c.of_sorted.result _ _ (λ kept e. e ∙ retained nat_list_cmp_total c.args.self.now _ _
-    (c.in_ok-kept.ensures ∙ ap (filter (λ (pair : Text × Text). not (is_empty pair.1))) c.entries-2.ensures ∙ filter_by_values nat_list_cmp_total c.args.self.now (λ text. not (is_empty text)) []))
+    (rw c.entries-2.ensures at c.in_ok-kept.ensures ∙ filter_by_values nat_list_cmp_total c.args.self.now (λ text. not (is_empty text)) []))
     c.of_sorted.ensures
