@@ -3,40 +3,33 @@
 use Rattle.std.proofs.Common.{◌≡◌, ◌+◌, ◌<◌, cond, T, List, [], ◌∷◌, ◌++◌, ℕ, suc, zero, Option, None, Some, length, map, reverse, get_or, refl, sym, ap, subst, ◌∙◌, arith, Bool, true, false}
 use Rattle.std.specs.Cmp.{IsTotalOrder}
 use Rattle.std.specs.FinMap.{find, is_sorted, IsAntisymmetric}
+use Rattle.std.specs.Option.{option_or}
 use Rattle.std.specs.FinMap.Entries.{below_all}
 use Rattle.std.specs.Ordering.{eq_by_cmp, is_eq, is_lt}
 use Rattle.std.specs.List.{IsAllAdjacentAnswer}
 use Rattle.std.proofs.lemmas.Bool.{true≢false}
 use Rattle.std.proofs.lemmas.List.{get_or-map, length-map, reverse-append}
 use Rattle.std.proofs.lemmas.Map.Keys.{sorted_from_all_adjacent}
+use Rattle.regex_hir.proofs.OptionLemmas.{option_or-None}
 use Rattle.amr_labels.proofs.Trees.{sorted_entries}
 use Rattle.std.specs.declared.cmp.Ordering.{Ordering}
 use Rattle.std.specs.declared.cmp.Ordering.TheVariants.{Less, Equal, Greater}
 use Rattle.amr_labels.specs.Map.{from_entries, from_sorted, entries-from_sorted, get-entries, get-from_entries, same_map}
 use Rattle.amr_labels.proofs.Sorted.{first, second, less}
 
-abbrev found_or : {X : Type 0} → Option X → Option X → Option X
-found_or None other = other
-found_or (Some x) other = Some x
-
-found_or-None : {X : Type 0} (found : Option X) → found_or found None ≡ found
-found_or-None None = refl
-found_or-None (Some x) = refl
-
 is_less : (r : Ordering) → true ≡ is_lt r → r ≡ Less
 is_less Less t = refl
-is_less Equal t = absurd (true≢false t)
-is_less Greater t = absurd (true≢false t)
+is_less _ t = absurd (true≢false t)
 
 is_true : (b : Bool) → T b → true ≡ b
 is_true true t = refl
 is_true false t = absurd t
 
 module _ {K X : Type 0} (R : K → K → Ordering) where
-  find-append : (q : K) (xs ys : List (K × X)) → find R q (xs ++ ys) ≡ found_or (find R q xs) (find R q ys)
+  find-append : (q : K) (xs ys : List (K × X)) → find R q (xs ++ ys) ≡ option_or (find R q xs) (find R q ys)
   find-append q [] ys = refl
   find-append q (e ∷ es) ys =
-      elim (eq_by_cmp R q e.0) as (λ b. cond b (Some e.1) (find R q (es ++ ys)) ≡ found_or (cond b (Some e.1) (find R q es)) (find R q ys)) [
+      elim (eq_by_cmp R q e.0) as (λ b. cond b (Some e.1) (find R q (es ++ ys)) ≡ option_or (cond b (Some e.1) (find R q es)) (find R q ys)) [
         | true ↦ refl
         | false ↦ find-append q es ys
       ]
@@ -79,12 +72,12 @@ module _ {K X : Type 0} {R : K → K → Ordering} (o : IsTotalOrder R) where
   not_above q x (e ∷ es) t h =
       ap (λ r. cond (is_eq r) (Some e.1) (find R q es)) (o.congr q x e.0 t ∙ less _ (first _ _ h)) ∙ not_above q x es t (second _ _ h)
 
-  last_or_first : (q : K) (e : K × X) (es : List (K × X)) → T (below_all R e.0 es) → found_or (find R q es) (find R q (e ∷ [])) ≡ find R q (e ∷ es)
+  last_or_first : (q : K) (e : K × X) (es : List (K × X)) → T (below_all R e.0 es) → option_or (find R q es) (find R q (e ∷ [])) ≡ find R q (e ∷ es)
   last_or_first q e es h =
-      elim (R q e.0) as (λ r. R q e.0 ≡ r → found_or (find R q es) (cond (is_eq r) (Some e.1) None) ≡ cond (is_eq r) (Some e.1) (find R q es)) [
-        | Less ↦ λ _. found_or-None (find R q es)
-        | Equal ↦ λ t. ap (λ found. found_or found (Some e.1)) (not_above q e.0 es t h)
-        | Greater ↦ λ _. found_or-None (find R q es)
+      elim (R q e.0) as (λ r. R q e.0 ≡ r → option_or (find R q es) (cond (is_eq r) (Some e.1) None) ≡ cond (is_eq r) (Some e.1) (find R q es)) [
+        | Less ↦ λ _. option_or-None (find R q es)
+        | Equal ↦ λ t. ap (λ found. option_or found (Some e.1)) (not_above q e.0 es t h)
+        | Greater ↦ λ _. option_or-None (find R q es)
       ] refl
 
   find-reverse : (q : K) (es : List (K × X)) → T (is_sorted R es) → find R q (reverse es) ≡ find R q es
@@ -92,7 +85,7 @@ module _ {K X : Type 0} {R : K → K → Ordering} (o : IsTotalOrder R) where
   find-reverse q (e ∷ es) h =
       ap (find R q) (reverse-append (e ∷ []) es)
       ∙ find-append R q (reverse es) (e ∷ [])
-      ∙ ap (λ found. found_or found (find R q (e ∷ []))) (find-reverse q es (second _ _ h))
+      ∙ ap (λ found. option_or found (find R q (e ∷ []))) (find-reverse q es (second _ _ h))
       ∙ last_or_first q e es (first _ _ h)
 
   pub ascending_map : IsAntisymmetric R → (es : List (K × X)) → T (is_sorted R es) → from_sorted {R = R} es ≡ from_entries (reverse es)

@@ -4,12 +4,13 @@ use Rattle.std.specs.Cmp.{nat_cmp_is, tied_itself}
 use Rattle.std.specs.Cmp.Lexicographic.{nat_list_cmp_total}
 use Rattle.std.specs.declared.cmp.Ordering.{Ordering}
 use Rattle.std.specs.declared.cmp.Ordering.TheVariants.{Less, Equal, Greater}
-use Rattle.std.specs.Ordering.{nat_cmp, ordering_then, ordering_reverse, match_ordering, MatchOrdering, is_lt}
+use Rattle.std.specs.Ordering.{nat_cmp, ordering_index, ordering_then, ordering_reverse, match_ordering, MatchOrdering, is_lt}
 use Rattle.std.proofs.lemmas.Cmp.{ranked, nat_cmp_total}
 use Rattle.std.proofs.lemmas.Bool.{true≢false}
 use Rattle.std.proofs.lemmas.List.{take-append-drop}
 use Rattle.amr_labels.specs.Labels.{Text, text_cmp}
 use Rattle.amr_labels.specs.Head.{with_head, standing, head_past}
+use Rattle.amr_labels.proofs.Searches.{at_most_two}
 use lib.Pointwise.{pointwise, bytes_decides}
 
 abbrev pub AreBytes : Text → Type 0
@@ -64,25 +65,14 @@ dropped_are_bytes (suc n) (b ∷ text) h = dropped_are_bytes n text (rest_are_by
 -- ---- texts before, among and after those that begin with a prefix
 
 abbrev Before : Ordering → Ordering → Type 0
-Before Less Less = ⊥
-Before Less Equal = Unit {0}
-Before Less Greater = Unit {0}
-Before Equal Less = ⊥
-Before Equal Equal = ⊥
-Before Equal Greater = Unit {0}
-Before Greater q = ⊥
-
-none_before_less : (r : Ordering) → Before r Less → ⊥
-none_before_less Less h = h
-none_before_less Equal h = h
-none_before_less Greater h = h
+Before r q = ordering_index r < ordering_index q
 
 -- of two texts that stand apart the first is the lesser
 apart : (ps s t : Text) → Before (standing ps s) (standing ps t) → text_cmp s t ≡ Less
-apart [] s t h = absurd h
-apart (p ∷ ps) [] [] h = absurd h
+apart [] s t h = absurd (omega (arith, h))
+apart (p ∷ ps) [] [] h = absurd (omega (arith, h))
 apart (p ∷ ps) [] (b ∷ t) h = refl
-apart (p ∷ ps) (a ∷ s) [] h = absurd (none_before_less (standing (p ∷ ps) (a ∷ s)) h)
+apart (p ∷ ps) (a ∷ s) [] h = absurd (omega (arith, h))
 apart (p ∷ ps) (a ∷ s) (b ∷ t) h =
     by (apart ps s t) (nat_cmp a p) (ranked a p (nat_cmp a p) refl) (nat_cmp b p) (ranked b p (nat_cmp b p) refl) h
   where
@@ -93,23 +83,17 @@ apart (p ∷ ps) (a ∷ s) (b ∷ t) h =
         → (r : Ordering) → MatchOrdering r (a < p) (a ≡ p) (p < a) → (q : Ordering) → MatchOrdering q (b < p) (b ≡ p) (p < b)
         → Before (ordering_then r (standing ps s)) (ordering_then q (standing ps t))
         → ordering_then (nat_cmp a b) (text_cmp s t) ≡ Less
-    by later Less f Less g m = absurd m
     by later Less f Equal g m = let under : a < p = f in let level : b ≡ p = g in lesser (omega (arith, under, level))
     by later Less f Greater g m = let under : a < p = f in let over : p < b = g in lesser (omega (arith, under, over))
-    by later Equal f Less g m = absurd (none_before_less (standing ps s) m)
     by later Equal f Equal g m =
         ap (λ r. ordering_then r (text_cmp s t)) ((λ i. nat_cmp (f i) (g i)) ∙ tied_itself nat_cmp_total p)
         ∙ later m
     by later Equal f Greater g m = let level : a ≡ p = f in let over : p < b = g in lesser (omega (arith, level, over))
-    by later Greater f Less g m = absurd m
-    by later Greater f Equal g m = absurd m
-    by later Greater f Greater g m = absurd m
+    by later _ f q g m = absurd (omega (arith, m, at_most_two (ordering_then q (standing ps t))))
 
 -- texts among those that begin with the prefix are ordered as what follows it
 among : (ps s t : Text) → standing ps s ≡ Equal → standing ps t ≡ Equal → text_cmp s t ≡ text_cmp (drop (length ps) s) (drop (length ps) t)
 among [] s t e f = refl
-among (p ∷ ps) [] t e f = cc
-among (p ∷ ps) (a ∷ s) [] e f = cc
 among (p ∷ ps) (a ∷ s) (b ∷ t) e f =
     by (among ps s t) (nat_cmp a p) (ranked a p (nat_cmp a p) refl) (nat_cmp b p) (ranked b p (nat_cmp b p) refl) e f
   where
@@ -117,13 +101,11 @@ among (p ∷ ps) (a ∷ s) (b ∷ t) e f =
         → (r : Ordering) → MatchOrdering r (a < p) (a ≡ p) (p < a) → (q : Ordering) → MatchOrdering q (b < p) (b ≡ p) (p < b)
         → ordering_then r (standing ps s) ≡ Equal → ordering_then q (standing ps t) ≡ Equal
         → ordering_then (nat_cmp a b) (text_cmp s t) ≡ text_cmp (drop (length ps) s) (drop (length ps) t)
-    by later Less l q g e f = cc
-    by later Greater l q g e f = cc
-    by later Equal l Less g e f = cc
-    by later Equal l Greater g e f = cc
     by later Equal l Equal g e f =
         ap (λ r. ordering_then r (text_cmp s t)) ((λ i. nat_cmp (l i) (g i)) ∙ tied_itself nat_cmp_total p)
         ∙ later e f
+    by later _ l _ g e f = cc
+among (p ∷ ps) _ _ e f = cc
 
 -- the text with the lesser head is the lesser
 pub heads_differ : (ps s t : Text) → AreBytes s → AreBytes t → head_past ps s < head_past ps t → text_cmp s t ≡ Less
@@ -142,11 +124,11 @@ heads_differ ps s t hs ht = by (standing ps s) (standing ps t) refl refl
         → match_ordering r (with_head 7 0 s) (with_head 7 1 later_s) (with_head 7 2 s) < match_ordering q (with_head 7 0 t) (with_head 7 1 later_t) (with_head 7 2 t)
         → text_cmp s t ≡ Less
     by Less Less e f l = heads_decide 7 0 s t ht l
-    by Less Equal e f l = parted Less Equal e f tt
-    by Less Greater e f l = parted Less Greater e f tt
+    by Less Equal e f l = parted Less Equal e f (omega arith)
+    by Less Greater e f l = parted Less Greater e f (omega arith)
     by Equal Less e f l = let over = rises 7 0 1 t later_s ht (omega arith) in absurd (omega (arith, l, over))
     by Equal Equal e f l = among ps s t e f ∙ heads_decide 7 1 later_s later_t (dropped_are_bytes (length ps) t ht) l
-    by Equal Greater e f l = parted Equal Greater e f tt
+    by Equal Greater e f l = parted Equal Greater e f (omega arith)
     by Greater Less e f l = let over = rises 7 0 2 t s ht (omega arith) in absurd (omega (arith, l, over))
     by Greater Equal e f l = let over = rises 7 1 2 later_t s (dropped_are_bytes (length ps) t ht) (omega arith) in absurd (omega (arith, l, over))
     by Greater Greater e f l = heads_decide 7 2 s t ht l

@@ -14,19 +14,13 @@ use Rattle.std.proofs.lemmas.List.Folds.{list_any_at, list_any_none}
 use Rattle.std.proofs.lemmas.List.Sorted.{searchable_from_sorted}
 use Rattle.amr_labels.proofs.Sorted.{first, second, less}
 
-at_most_two : (o : Ordering) → ordering_index o ≤ 2
+-- no answer stands after the third
+pub at_most_two : (o : Ordering) → ordering_index o ≤ 2
 at_most_two Less = omega arith
-at_most_two Equal = omega arith
-at_most_two Greater = omega arith
+at_most_two _ = omega arith
 
 same_index : (o p : Ordering) → o ≡ p → ordering_index o ≤ ordering_index p
 same_index o p e = rw e (omega arith)
-
-apart : (o : Ordering) → o ≡ Less → o ≡ Equal → ⊥
-apart o e f = cc
-
-apart_above : (o : Ordering) → o ≡ Greater → o ≡ Equal → ⊥
-apart_above o e f = cc
 
 module _ {K : Type 0} {R : K → K → Ordering} (o : IsTotalOrder R) where
   index_rises : (x y q : K) → R x y ≡ Less → ordering_index (R x q) ≤ ordering_index (R y q)
@@ -79,27 +73,22 @@ module _ {K X : Type 0} {R : K → K → Ordering} (o : IsTotalOrder R) where
         | inr p ↦ index_rises o _ _ q (rises es h j k d p.1 lt)
       ]) in
       none_found q es (λ k d lt e. elim (leb_tells i k) [
-        | inl p ↦ apart_above _ (parts.1 k d p.1 lt) e
-        | inr p ↦ apart _ (parts.0 k d (omega arith) p.1) e
+        | inl p ↦ cc (parts.1 k d p.1 lt)
+        | inr p ↦ cc (parts.0 k d (omega arith) p.1)
       ])
 
 -- a search among keys in ascending order, some of which may be equal, tells whether a key is among them
 module _ {K : Type 0} {R : K → K → Ordering} (o : IsTotalOrder R) where
-  is_key : (q x : K) → R x q ≡ Equal → eq_by_cmp R q x ≡ true
-  is_key q x e = ap is_eq (o.antisymm q x ∙ ap ordering_reverse e)
-
-  not_key : (q x : K) (r : Ordering) → R x q ≡ r → is_eq r ≡ false → eq_by_cmp R q x ≡ false
-  not_key q x Less e unlike = ap is_eq (o.antisymm q x ∙ ap ordering_reverse e)
-  not_key q x Equal e unlike = absurd (true≢false unlike)
-  not_key q x Greater e unlike = ap is_eq (o.antisymm q x ∙ ap ordering_reverse e)
+  told : (q x : K) (r : Ordering) → R x q ≡ r → eq_by_cmp R q x ≡ is_eq (ordering_reverse r)
+  told q x r e = ap is_eq (o.antisymm q x ∙ ap ordering_reverse e)
 
   pub among : (q : K) (ks : List K) (r : Result ℕ ℕ) → IsSorted R ks → IsSearchInRange r (length ks) → IsBinarySearchResult (λ k. R k q) ks r
       → MatchResult r (λ i. list_any (eq_by_cmp R q) ks ≡ true) (λ i. list_any (eq_by_cmp R q) ks ≡ false)
   among q [] (Ok i) up within result = absurd (omega arith)
-  among q (k ∷ ks) (Ok i) up within result = list_any_at (eq_by_cmp R q) (k ∷ ks) i k within (is_key q _ (result k))
+  among q (k ∷ ks) (Ok i) up within result = list_any_at (eq_by_cmp R q) (k ∷ ks) i k within (told q _ Equal (result k))
   among q ks (Err i) up within result =
       let parts = result (searchable_from_sorted o (λ k. k) ks q up) in
       list_any_none (eq_by_cmp R q) ks (λ k d lt. elim (leb_tells i k) [
-        | inl p ↦ not_key q _ Greater (parts.1 k d p.1 lt) refl
-        | inr p ↦ not_key q _ Less (parts.0 k d (omega arith) p.1) refl
+        | inl p ↦ told q _ Greater (parts.1 k d p.1 lt)
+        | inr p ↦ told q _ Less (parts.0 k d (omega arith) p.1)
       ])

@@ -12,8 +12,7 @@ use Rattle.amr_labels.specs.SortKey.{key_of_text, key_of_label, sort_key, has_ze
 
 then_then : (a b c : Ordering) → ordering_then a (ordering_then b c) ≡ ordering_then (ordering_then a b) c
 then_then Less b c = refl
-then_then Equal b c = refl
-then_then Greater b c = refl
+then_then _ b c = refl
 
 positive : (b : ℕ) → (b == 0) ≡ false → 0 < b
 positive b h = grind arith

@@ -19,5 +19,4 @@ second false b p = absurd p
 
 pub less : (o : Ordering) → T (is_lt o) → o ≡ Less
 less Less p = refl
-less Equal p = absurd p
-less Greater p = absurd p
+less _ p = absurd p

@@ -1,7 +1,7 @@
 -- Asking one matcher after the other is asking all of them.
 use Rattle.std.proofs.Common.{◌≡◌, ℕ, zero, suc, ◌+◌, ◌<◌, Bool, true, false, ◌&&◌, List, [], ◌∷◌, map, length, take, set, get_or, refl, sym, ap, ◌∙◌, arith, add-one, eq-eqb}
 use Rattle.std.specs.Prelude.{◌==◌, bit_or}
-use Rattle.std.proofs.Math.Bool.{and_assoc}
+use Rattle.std.proofs.Math.Bool.{and_assoc, and-true, and-false}
 use Rattle.std.specs.List.{list_any}
 use Rattle.std.proofs.lemmas.Bool.{true≢false}
 use Rattle.amr_labels.specs.Labels.{LabelSet}
@@ -9,14 +9,6 @@ use Rattle.amr_labels.specs.Matcher.Matchers.{Matcher, holds, all_hold}
 use Rattle.amr_labels.specs.Matcher.Candidates.{candidates_by_bits, candidates_after, kept_by, kept_by_all, matches_each}
 use Rattle.amr_labels.specs.Matcher.ValueBits.{value_bits, required_bits}
 use Rattle.amr_labels.proofs.MatcherLemmas.ValueBits.{matching_marked}
-
-and_true : (b : Bool) → (b && true) ≡ b
-and_true true = refl
-and_true false = refl
-
-and_false : (b : Bool) → (b && false) ≡ false
-and_false true = refl
-and_false false = refl
 
 -- a test of label sets with what is known of them
 kept_more : (test known : LabelSet → Bool) (label_sets : List LabelSet)
@@ -37,8 +29,8 @@ have_bits matchers (labels ∷ label_sets) = ap (λ candidates. has_bits matcher
 bits_besides : (matchers : List Matcher) (labels : LabelSet) → (has_bits matchers labels && all_hold matchers labels) ≡ all_hold matchers labels
 bits_besides matchers labels =
     elim (all_hold matchers labels) as (λ all. all_hold matchers labels ≡ all → (has_bits matchers labels && all) ≡ all) [
-      | true ↦ λ all. and_true (has_bits matchers labels) ∙ eq-eqb _ _ (matching_marked labels matchers all)
-      | false ↦ λ all. and_false (has_bits matchers labels)
+      | true ↦ λ all. and-true (has_bits matchers labels) ∙ eq-eqb _ _ (matching_marked labels matchers all)
+      | false ↦ λ all. and-false (has_bits matchers labels)
     ] refl
 
 pub asked_each : (matchers : List Matcher) (label_sets : List LabelSet)
@@ -61,7 +53,7 @@ tested_in_vain test (labels ∷ label_sets) (false ∷ candidates) none = ap (λ
 pub kept_by_none : (label_sets : List LabelSet) (candidates : List Bool) → kept_by_all [] label_sets candidates ≡ candidates
 kept_by_none [] candidates = refl
 kept_by_none (labels ∷ label_sets) [] = refl
-kept_by_none (labels ∷ label_sets) (mark ∷ candidates) = λ i. and_true mark i ∷ kept_by_none label_sets candidates i
+kept_by_none (labels ∷ label_sets) (mark ∷ candidates) = λ i. and-true mark i ∷ kept_by_none label_sets candidates i
 
 -- the first matcher is asked, then the others
 pub kept_by_first : (matcher : Matcher) (matchers : List Matcher) (label_sets : List LabelSet) (candidates : List Bool)

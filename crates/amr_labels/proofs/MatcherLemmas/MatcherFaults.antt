@@ -4,6 +4,7 @@ use Rattle.std.proofs.Common.{◌≡◌, ℕ, ◌+◌, ◌<◌, List, [], ◌∷
 use Rattle.std.specs.Prelude.{IsSome, encode_utf8_all, option_and_then}
 use Rattle.std.proofs.lemmas.Bool.{false≢true}
 use Rattle.std.proofs.lemmas.List.{at_drop_more, append-nil, take-append-drop}
+use Rattle.regex_hir.proofs.OptionLemmas.{value_of_IsSome}
 use Rattle.amr_labels.specs.declared.matcher.Operator.{Operator}
 use Rattle.amr_labels.specs.declared.matcher.matcher_steps.Mode.{Mode}
 use Rattle.amr_labels.specs.declared.matcher.matcher_steps.Mode.TheVariants.{Start, Opened, NameLiteral, NameOpened, NameQuoted, NameEscape, AfterName, AfterBang, AfterEquals, ValueStart, ValueLiteral, ValueQuoted, ValueEscape, AfterValue, AfterComma, Closed}
@@ -45,16 +46,12 @@ ends true Start n o v m = refl
 ends false Start n o v m = refl
 ends b _ n o v m = refl
 
-some_of : {X : Type 0} (o : Option X) → IsSome o → (x : X) × (o ≡ Some x)
-some_of None h = absurd (false≢true h)
-some_of (Some x) h = (x, refl)
-
 begun : (front : List ℕ) (r : Reading) → run (Some start) front ≡ Some r → Begins front
 begun front r h =
     let rest = completion r.braced r.mode in
     let some : IsSome (matchers_of_chars (front ++ rest)) =
     subst (λ o. IsSome (option_and_then matchers_at_end o)) (sym (run-append (Some start) front rest ∙ ap (λ o. run o rest) h)) (ends r.braced r.mode r.name r.operator r.value r.matchers) in
-    let found = some_of (matchers_of_chars (front ++ rest)) some in
+    let found = value_of_IsSome (matchers_of_chars (front ++ rest)) some in
     (rest, found.0, chars_are_spelled (front ++ rest) found.0 found.1)
 
 -- if the machine stops, no text goes on

@@ -3,7 +3,9 @@ use Rattle.std.proofs.Common.{◌≡◌, ℕ, Bool, true, false, ◌&&◌, cond,
 use Rattle.std.specs.Prelude.{fold, bit_or}
 use Rattle.std.specs.Int.{bit_at}
 use Rattle.std.specs.Int.Bits.{or_self, or_zero_l}
+use Rattle.std.proofs.lemmas.Bool.{and_parts}
 use Rattle.std.proofs.lemmas.Bool.Decides.{nat_tests}
+use Rattle.std.proofs.lemmas.Map.Views.{tells_apart}
 use Rattle.std.proofs.lemmas.Nat.{or_comm}
 use Rattle.std.proofs.lemmas.Nat.Bits.{bit_at_or, same_from_bits}
 use Rattle.std.specs.declared.cmp.Ordering.TheVariants.{Less, Equal as Same, Greater}
@@ -16,30 +18,8 @@ use Rattle.amr_labels.specs.declared.matcher.Operator.TheVariants.{Equal, NotEqu
 use Rattle.amr_labels.specs.Matcher.Matchers.{Matcher, compares, holds, all_hold}
 use Rattle.amr_labels.specs.Matcher.ValueBits.{value_bit, value_bits, bits_asked, required_bit, required_bits}
 
-max_assoc : (a b c : ℕ) → max (max a b) c ≡ max a (max b c)
-max_assoc a b c = grind (arith, nat_tests)
-
-both_first : (a b : Bool) → (a && b) ≡ true → a ≡ true
-both_first true b h = refl
-both_first false b h = absurd (cc h)
-
-both_second : (a b : Bool) → (a && b) ≡ true → b ≡ true
-both_second true b h = h
-both_second false b h = absurd (cc h)
-
-same_text : (a b : Text) → eq_by_cmp text_cmp a b ≡ true → a ≡ b
-same_text a b e =
-    elim (text_cmp a b) as (λ o. text_cmp a b ≡ o → is_eq o ≡ true → a ≡ b) [
-      | Less ↦ λ is h. absurd (cc h)
-      | Same ↦ λ is h. text_cmp-IsAntisymmetric a b is
-      | Greater ↦ λ is h. absurd (cc h)
-    ] refl e
-
 or_assoc : (a b c : ℕ) → bit_or (bit_or a b) c ≡ bit_or a (bit_or b c)
-or_assoc a b c = same_from_bits _ _ (λ i.
-    bit_at_or (bit_or a b) c i ∙ ap (λ (n : ℕ). max n (bit_at c i)) (bit_at_or a b i)
-    ∙ max_assoc (bit_at a i) (bit_at b i) (bit_at c i)
-    ∙ sym (bit_at_or a (bit_or b c) i ∙ ap (max (bit_at a i)) (bit_at_or b c i)))
+or_assoc a b c = same_from_bits _ _ (λ i. simp bit_at_or (grind (arith, nat_tests)))
 
 -- the bits of a value are among these
 abbrev within : ℕ → ℕ → Type 0
@@ -89,23 +69,21 @@ asked_marked : (labels : LabelSet) (matcher : Matcher) → holds matcher labels 
 asked_marked labels matcher h =
     elim matcher.operator as (λ o. compares o matcher.value (value_of labels matcher.name) ≡ true → within (value_bits labels) (bits_asked o matcher.value)) [
       | Equal ↦ λ h.
-          let own : value_of labels matcher.name ≡ matcher.value = same_text (value_of labels matcher.name) matcher.value h in
+          let own : value_of labels matcher.name ≡ matcher.value = tells_apart text_cmp-IsAntisymmetric (value_of labels matcher.name) matcher.value h in
           elim (is_empty matcher.value) as (λ b. is_empty matcher.value ≡ b → within (value_bits labels) (cond b 0 (value_bit matcher.value))) [
             | true ↦ λ e. none_asked (value_bits labels)
             | false ↦ λ e. subst (λ (v : Text). within (value_bits labels) (value_bit v)) own (value_bited labels matcher.name (ap is_empty own ∙ e))
           ] refl
-      | NotEqual ↦ λ h. none_asked (value_bits labels)
-      | Matches ↦ λ h. none_asked (value_bits labels)
-      | NotMatches ↦ λ h. none_asked (value_bits labels)
+      | _ ↦ λ h. none_asked (value_bits labels)
     ] h
 
 all_asked : (labels : LabelSet) (bits : ℕ) (matchers : List Matcher) → within (value_bits labels) bits → all_hold matchers labels ≡ true
     → within (value_bits labels) (fold (λ bits matcher. bit_or bits (required_bit matcher)) bits matchers)
 all_asked labels bits [] h all = h
 all_asked labels bits (matcher ∷ matchers) h all =
+    let parts = and_parts (holds matcher labels) (all_hold matchers labels) all in
     all_asked labels (bit_or bits (required_bit matcher)) matchers
-    (within_both (value_bits labels) bits (required_bit matcher) h (asked_marked labels matcher (both_first (holds matcher labels) (all_hold matchers labels) all)))
-    (both_second (holds matcher labels) (all_hold matchers labels) all)
+    (within_both (value_bits labels) bits (required_bit matcher) h (asked_marked labels matcher parts.0)) parts.1
 
 -- the bits that matching matchers ask for are among those of the label set
 pub matching_marked : (labels : LabelSet) (matchers : List Matcher) → all_hold matchers labels ≡ true → bit_or (value_bits labels) (required_bits matchers) ≡ value_bits labels

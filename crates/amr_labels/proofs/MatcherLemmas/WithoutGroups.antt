@@ -18,26 +18,18 @@ rounds_along R S h i j (one_round _ r) = one_round j (h i j r)
 rounds_along R S h i j (next_round l _ front r) = next_round l j (rounds_along R S h i l front) (h l j r)
 
 without : (hay : List ℕ) (re : Re) (i j : ℕ) → Matches hay re i j → Matches hay (without_groups re) i j
-without hay empty i j m = m
-without hay (literal bytes) i j m = m
-without hay (byte_in ranges) i j m = m
-without hay (char_in ranges) i j m = m
-without hay (look l) i j m = m
 without hay (cat a b) i j m = (m.0, without hay a i m.0 m.1, without hay b m.0 j m.2)
 without hay (alt a b) i j m = ⊎_elim (λ left. inl (without hay a i j left)) (λ right. inr (without hay b i j right)) m
 without hay (group n a) i j m = without hay a i j m
 without hay (plus greedy a) i j m = rounds_along (Matches hay a) (Matches hay (without_groups a)) (without hay a) i j m
+without hay _ i j m = m
 
 with_them : (hay : List ℕ) (re : Re) (i j : ℕ) → Matches hay (without_groups re) i j → Matches hay re i j
-with_them hay empty i j m = m
-with_them hay (literal bytes) i j m = m
-with_them hay (byte_in ranges) i j m = m
-with_them hay (char_in ranges) i j m = m
-with_them hay (look l) i j m = m
 with_them hay (cat a b) i j m = (m.0, with_them hay a i m.0 m.1, with_them hay b m.0 j m.2)
 with_them hay (alt a b) i j m = ⊎_elim (λ left. inl (with_them hay a i j left)) (λ right. inr (with_them hay b i j right)) m
 with_them hay (group n a) i j m = with_them hay a i j m
 with_them hay (plus greedy a) i j m = rounds_along (Matches hay (without_groups a)) (Matches hay a) (with_them hay a) i j m
+with_them hay _ i j m = m
 
 -- ---- where both are found
 
@@ -49,10 +41,9 @@ found_too hay a b i h some =
     attempt_complete hay b accept i way.at (h way.at way.leads) refl
 
 same_test : {A : Type 0} (o p : Option A) → (IsSome o → IsSome p) → (IsSome p → IsSome o) → is_some o ≡ is_some p
-same_test None None f g = refl
 same_test None (Some y) f g = absurd (true≢false (sym (g refl)))
 same_test (Some x) None f g = absurd (true≢false (sym (f refl)))
-same_test (Some x) (Some y) f g = refl
+same_test _ _ f g = refl
 
 found_at : (hay : List ℕ) (re : Re) (i : ℕ) → is_some (attempt hay (without_groups re) accept i) ≡ is_some (attempt hay re accept i)
 found_at hay re i =
