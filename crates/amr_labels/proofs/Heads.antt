@@ -7,7 +7,7 @@ use Rattle.std.specs.declared.cmp.Ordering.TheVariants.{Less, Equal, Greater}
 use Rattle.std.specs.Ordering.{nat_cmp, ordering_index, ordering_then, ordering_reverse, match_ordering, MatchOrdering, is_lt}
 use Rattle.std.proofs.lemmas.Cmp.{ranked, nat_cmp_total}
 use Rattle.std.proofs.lemmas.Bool.{true≢false}
-use Rattle.std.proofs.lemmas.List.{take-append-drop}
+use Rattle.std.proofs.lemmas.List.{get_or-drop, take-append-drop}
 use Rattle.amr_labels.specs.Labels.{Text, text_cmp}
 use Rattle.amr_labels.specs.Head.{with_head, standing, head_past}
 use Rattle.amr_labels.proofs.Searches.{at_most_two}
@@ -16,29 +16,28 @@ use lib.Pointwise.{pointwise, bytes_decides}
 abbrev pub AreBytes : Text → Type 0
 AreBytes text = (k : ℕ) → get_or text k 0 < 256
 
-rest_are_bytes : (b : ℕ) (text : Text) → AreBytes (b ∷ text) → AreBytes text
-rest_are_bytes b text h k = h (suc k)
+dropped_are_bytes : (n : ℕ) (text : Text) → AreBytes text → AreBytes (drop n text)
+dropped_are_bytes n text h k = rw (get_or-drop n text k 0) (h (n + k))
 
 below : (a b : ℕ) → a < b → nat_cmp a b ≡ Less
 below a b h = sym (nat_cmp_is a b Less h)
 
+-- the next digit
+next_digit : (n x : ℕ) (text : Text) → with_head (suc n) x text ≡ with_head n (x * 256 + get_or text 0 0) (drop 1 text)
+next_digit n x [] = ap (λ m. with_head n m []) (omega arith)
+next_digit n x (b ∷ text) = refl
+
 -- a lesser number is the lesser whatever digits follow
 rises : (n x y : ℕ) (s t : Text) → AreBytes s → x < y → with_head n x s < with_head n y t
 rises zero x y s t h l = l
-rises (suc n) x y [] [] h l = rises n (x * 256) (y * 256) [] [] h (omega (arith, l))
-rises (suc n) x y [] (b ∷ t) h l = rises n (x * 256) (y * 256 + b) [] t h (omega (arith, l))
-rises (suc n) x y (a ∷ s) [] h l =
-    let small : a < 256 = h 0 in
-    rises n (x * 256 + a) (y * 256) s [] (rest_are_bytes a s h) (omega (arith, l, small))
-rises (suc n) x y (a ∷ s) (b ∷ t) h l =
-    let small : a < 256 = h 0 in
-    rises n (x * 256 + a) (y * 256 + b) s t (rest_are_bytes a s h) (omega (arith, l, small))
+rises (suc n) x y s t h l =
+    let small = h 0 in
+    rw (next_digit n x s, next_digit n y t) (rises n _ _ (drop 1 s) (drop 1 t) (dropped_are_bytes 1 s h) (omega (arith, l, small)))
 
 -- zeros are the least digits
 least : (n x y : ℕ) (s : Text) → x ≤ y → with_head n x [] ≤ with_head n y s
 least zero x y s l = l
-least (suc n) x y [] l = least n (x * 256) (y * 256) [] (omega (arith, l))
-least (suc n) x y (b ∷ s) l = least n (x * 256) (y * 256 + b) s (omega (arith, l))
+least (suc n) x y s l = rw (next_digit n y s) (least n (x * 256) _ (drop 1 s) (omega (arith, l)))
 
 -- the first digits that differ decide
 heads_decide : (n x : ℕ) (s t : Text) → AreBytes t → with_head n x s < with_head n x t → text_cmp s t ≡ Less
@@ -47,7 +46,7 @@ heads_decide (suc n) x [] [] h l = heads_decide n (x * 256) [] [] h l
 heads_decide (suc n) x [] (b ∷ t) h l = refl
 heads_decide (suc n) x (a ∷ s) [] h l = absurd (omega (arith, l, least n (x * 256) (x * 256 + a) s (omega arith)))
 heads_decide (suc n) x (a ∷ s) (b ∷ t) h l =
-    by (heads_decide n (x * 256 + b) s t (rest_are_bytes b t h)) (nat_cmp a b) (ranked a b (nat_cmp a b) refl)
+    by (heads_decide n (x * 256 + b) s t (dropped_are_bytes 1 (b ∷ t) h)) (nat_cmp a b) (ranked a b (nat_cmp a b) refl)
   where
     by : (with_head n (x * 256 + b) s < with_head n (x * 256 + b) t → text_cmp s t ≡ Less)
         → (r : Ordering) → MatchOrdering r (a < b) (a ≡ b) (b < a) → ordering_then r (text_cmp s t) ≡ Less
@@ -55,12 +54,7 @@ heads_decide (suc n) x (a ∷ s) (b ∷ t) h l =
     by later Equal f = later (subst (λ c. with_head n (x * 256 + c) s < with_head n (x * 256 + b) t) f l)
     by later Greater f =
         let over : b < a = f in
-        absurd (omega (arith, l, rises n (x * 256 + b) (x * 256 + a) t s (rest_are_bytes b t h) (omega (arith, over))))
-
-dropped_are_bytes : (n : ℕ) (text : Text) → AreBytes text → AreBytes (drop n text)
-dropped_are_bytes zero text h = h
-dropped_are_bytes (suc n) [] h = h
-dropped_are_bytes (suc n) (b ∷ text) h = dropped_are_bytes n text (rest_are_bytes b text h)
+        absurd (omega (arith, l, rises n (x * 256 + b) (x * 256 + a) t s (dropped_are_bytes 1 (b ∷ t) h) (omega (arith, over))))
 
 -- ---- texts before, among and after those that begin with a prefix
 
@@ -124,8 +118,7 @@ heads_differ ps s t hs ht = by (standing ps s) (standing ps t) refl refl
         → match_ordering r (with_head 7 0 s) (with_head 7 1 later_s) (with_head 7 2 s) < match_ordering q (with_head 7 0 t) (with_head 7 1 later_t) (with_head 7 2 t)
         → text_cmp s t ≡ Less
     by Less Less e f l = heads_decide 7 0 s t ht l
-    by Less Equal e f l = parted Less Equal e f (omega arith)
-    by Less Greater e f l = parted Less Greater e f (omega arith)
+    by Less q e f l = parted Less q e f (omega arith)
     by Equal Less e f l = let over = rises 7 0 1 t later_s ht (omega arith) in absurd (omega (arith, l, over))
     by Equal Equal e f l = among ps s t e f ∙ heads_decide 7 1 later_s later_t (dropped_are_bytes (length ps) t ht) l
     by Equal Greater e f l = parted Equal Greater e f (omega arith)

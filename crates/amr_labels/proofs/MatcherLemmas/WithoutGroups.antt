@@ -1,9 +1,9 @@
 -- A pattern is found without its groups exactly where it is found with them.
-use Rattle.std.proofs.Common.{◌≡◌, ℕ, zero, suc, ◌-◌, Bool, true, false, cond, ◌||◌, List, [], ◌∷◌, map, Option, Some, None, IsSome, is_some, option_map, refl, sym, ap, ap₂, ◌∙◌, inl, inr, ⊎_elim, true≢false}
+use Rattle.std.proofs.Common.{◌≡◌, ℕ, zero, suc, ◌-◌, Bool, true, false, cond, ◌||◌, List, [], ◌∷◌, map, Option, Some, None, IsSome, is_some, option_map, refl, sym, ap, ap₂, ◌∙◌, ◌⊎◌, subst, true≢false}
 use Rattle.std.specs.Option.{option_or}
 use Rattle.regex_hir.specs.Re.{Re, empty, literal, byte_in, char_in, look, cat, alt, group, plus, Trace, Rest, accept, attempt}
 use Rattle.regex_hir.specs.Meaning.{meaning, cat_all, alt_all, optional, copies, up_to, at_least, repeat}
-use Rattle.regex_hir.specs.Matches.{Rounds, one_round, next_round, Matches}
+use Rattle.regex_hir.specs.Matches.{Rounds, Matches}
 use Rattle.regex_hir.specs.Text.{is_boundary}
 use Rattle.regex_hir.specs.Find.{Match, first_from, find_str}
 use Rattle.regex_hir.specs.declared.hir.Hir.{Hir}
@@ -11,25 +11,13 @@ use Rattle.regex_hir.proofs.AttemptLemmas.{attempt_sound, attempt_complete}
 use Rattle.regex_hir.proofs.OptionLemmas.{value_of_IsSome}
 use Rattle.amr_labels.specs.Matcher.Searches.{without_groups}
 
--- ---- what both match
-
-rounds_along : (R S : ℕ → ℕ → Type 0) → ((i j : ℕ) → R i j → S i j) → (i j : ℕ) → Rounds R i j → Rounds S i j
-rounds_along R S h i j (one_round _ r) = one_round j (h i j r)
-rounds_along R S h i j (next_round l _ front r) = next_round l j (rounds_along R S h i l front) (h l j r)
-
-without : (hay : List ℕ) (re : Re) (i j : ℕ) → Matches hay re i j → Matches hay (without_groups re) i j
-without hay (cat a b) i j m = (m.0, without hay a i m.0 m.1, without hay b m.0 j m.2)
-without hay (alt a b) i j m = ⊎_elim (λ left. inl (without hay a i j left)) (λ right. inr (without hay b i j right)) m
-without hay (group n a) i j m = without hay a i j m
-without hay (plus greedy a) i j m = rounds_along (Matches hay a) (Matches hay (without_groups a)) (without hay a) i j m
-without hay _ i j m = m
-
-with_them : (hay : List ℕ) (re : Re) (i j : ℕ) → Matches hay (without_groups re) i j → Matches hay re i j
-with_them hay (cat a b) i j m = (m.0, with_them hay a i m.0 m.1, with_them hay b m.0 j m.2)
-with_them hay (alt a b) i j m = ⊎_elim (λ left. inl (with_them hay a i j left)) (λ right. inr (with_them hay b i j right)) m
-with_them hay (group n a) i j m = with_them hay a i j m
-with_them hay (plus greedy a) i j m = rounds_along (Matches hay (without_groups a)) (Matches hay a) (with_them hay a) i j m
-with_them hay _ i j m = m
+-- what both match
+same_matches : (hay : List ℕ) (re : Re) (i j : ℕ) → Matches hay (without_groups re) i j ≡ Matches hay re i j
+same_matches hay (cat a b) i j = λ k. (l : ℕ) × same_matches hay a i l k × same_matches hay b l j k
+same_matches hay (alt a b) i j = λ k. same_matches hay a i j k ⊎ same_matches hay b i j k
+same_matches hay (group n a) i j = same_matches hay a i j
+same_matches hay (plus greedy a) i j = λ k. Rounds (λ from to. same_matches hay a from to k) i j
+same_matches hay _ i j = refl
 
 -- ---- where both are found
 
@@ -48,7 +36,8 @@ same_test _ _ f g = refl
 found_at : (hay : List ℕ) (re : Re) (i : ℕ) → is_some (attempt hay (without_groups re) accept i) ≡ is_some (attempt hay re accept i)
 found_at hay re i =
     same_test (attempt hay (without_groups re) accept i) (attempt hay re accept i)
-    (found_too hay (without_groups re) re i (with_them hay re i)) (found_too hay re (without_groups re) i (without hay re i))
+    (found_too hay (without_groups re) re i (λ j. subst (λ X. X) (same_matches hay re i j)))
+    (found_too hay re (without_groups re) i (λ j. subst (λ X. X) (sym (same_matches hay re i j))))
 
 some_if : {A : Type 0} (b : Bool) (o p : Option A) → is_some o ≡ is_some p → is_some (cond b o None) ≡ is_some (cond b p None)
 some_if true o p same = same
