@@ -27,10 +27,6 @@ first_of e = ap (λ l. get_or l 0 0) e
 not_zero : (byte : ℕ) (text : Text) → has_zero (byte ∷ text) ≡ false → byte ≡ 0 → ⊥
 not_zero byte text h e = let none = (or_parts (byte == 0) (has_zero text) h).0 in grind (arith, none, e)
 
-nothing : (text : Text) (key : List ℕ) → [] ≡ key_of_text text ++ key → ⊥
-nothing [] key e = let n = ap length e in omega (arith, n)
-nothing (b ∷ text) key e = let n = ap length e in omega (arith, n)
-
 module _ (texts : List Text) (others_are : (others : List Text) → length texts ≤ length others → key_of texts ≡ key_of others → texts ≡ others) where
   first_texts : (text other : Text) (others : List Text) → has_zero text ≡ false → length texts ≤ length others
       → key_of_text text ++ key_of texts ≡ key_of_text other ++ key_of others → (text ≡ other) × (texts ≡ others)
@@ -44,7 +40,8 @@ module _ (texts : List Text) (others_are : (others : List Text) → length texts
 
 same_texts : (texts others : List Text) → none_have_zeros texts ≡ false → length texts ≤ length others → key_of texts ≡ key_of others → texts ≡ others
 same_texts [] [] h l e = refl
-same_texts [] (other ∷ others) h l e = absurd (nothing other (key_of others) e)
+same_texts [] ([] ∷ others) h l e = cc
+same_texts [] (_ ∷ others) h l e = cc
 same_texts (text ∷ texts) [] h l e = absurd (omega (arith, l))
 same_texts (text ∷ texts) (other ∷ others) h l e =
     let parts = or_parts (has_zero text) (none_have_zeros texts) h in
@@ -75,11 +72,10 @@ count_is (label ∷ labels) = let n = count_is labels in omega (arith, n)
 
 labels_are : (labels others : List (Text × Text)) → texts_of labels ≡ texts_of others → labels ≡ others
 labels_are [] [] e = refl
-labels_are [] (other ∷ others) e = let n = ap length e in absurd (omega (arith, n))
-labels_are (label ∷ labels) [] e = let n = ap length e in absurd (omega (arith, n))
 labels_are (label ∷ labels) (other ∷ others) e =
     let rest = labels_are labels others (rest_of (rest_of e)) in
     λ i. (get_or (e i) 0 [], get_or (e i) 1 []) ∷ rest i
+labels_are _ _ e = cc
 
 -- labels without a zero are those of any as many labels with their sort key
 pub of_sort_key : (labels others : List (Text × Text)) → has_zeros labels ≡ false → length labels ≡ length others → sort_key labels ≡ sort_key others → labels ≡ others

@@ -23,6 +23,7 @@ closing false = []
 -- what takes a reading to an end
 abbrev completion : Bool → Mode → List ℕ
 completion b Start = []
+completion b Closed = []
 completion b Opened = 125 ∷ []
 completion b NameLiteral = 61 ∷ closing b
 completion b NameOpened = 97 ∷ 34 ∷ 61 ∷ closing b
@@ -30,14 +31,9 @@ completion b NameQuoted = 34 ∷ 61 ∷ closing b
 completion b NameEscape = 34 ∷ 34 ∷ 61 ∷ closing b
 completion b AfterName = 61 ∷ closing b
 completion b AfterBang = 61 ∷ closing b
-completion b AfterEquals = closing b
-completion b ValueStart = closing b
-completion b ValueLiteral = closing b
 completion b ValueQuoted = 34 ∷ closing b
 completion b ValueEscape = 34 ∷ 34 ∷ closing b
-completion b AfterValue = closing b
-completion b AfterComma = closing b
-completion b Closed = []
+completion b _ = closing b
 
 ends : (b : Bool) (mode : Mode) (name : Text) (operator : Operator) (value : Text) (matchers : List Matcher) →
     IsSome (option_and_then matchers_at_end (run (Some (record { braced = b; mode = mode; name = name; operator = operator; value = value; matchers = matchers })) (completion b mode)))

@@ -99,9 +99,6 @@ ByName b v ms out n cs = FollowsName b n v ms cs out
 abbrev FollowsBackslash : (Text → List ℕ → Type 0) → Text → List ℕ → Type 0
 FollowsBackslash P t cs = (c : ℕ) × (rest : List ℕ) × (cs ≡ c ∷ rest) × (is_refused c ≡ false) × AfterPieces P (t ++ encode_utf8_all (meaning_of_escape c)) rest
 
-abbrev FollowsEither : ℕ → (List ℕ → Type 0) → ℕ → (List ℕ → Type 0) → List ℕ → Type 0
-FollowsEither c P d Q cs = ((rest : List ℕ) × (cs ≡ c ∷ rest) × P rest) ⊎ ((rest : List ℕ) × (cs ≡ d ∷ rest) × Q rest)
-
 abbrev FollowsBraces : List Matcher → List ℕ → List Matcher → Type 0
 FollowsBraces ms cs out =
     (before : List ℕ) × (l : Listed) × (after : List ℕ) × (is_blank before ≡ true) × IsListed l × (is_blank after ≡ true) × (cs ≡ before ++ (123 ∷ (listed_text l ++ (125 ∷ after)))) × (out ≡ ms ++ listed_matchers l)
@@ -115,7 +112,8 @@ Follows b NameOpened n o v ms cs out = AfterPiece (ByName b v ms out) n cs
 Follows b NameQuoted n o v ms cs out = AfterPieces (ByName b v ms out) n cs
 Follows b NameEscape n o v ms cs out = FollowsBackslash (ByName b v ms out) n cs
 Follows b AfterName n o v ms cs out = FollowsName b n v ms cs out
-Follows b AfterBang n o v ms cs out = FollowsEither 61 (λ rest. FollowsOperator b n NotEqual v ms rest out) 126 (λ rest. FollowsOperator b n NotMatches v ms rest out) cs
+Follows b AfterBang n o v ms cs out =
+    ((rest : List ℕ) × (cs ≡ 61 ∷ rest) × FollowsOperator b n NotEqual v ms rest out) ⊎ ((rest : List ℕ) × (cs ≡ 126 ∷ rest) × FollowsOperator b n NotMatches v ms rest out)
 Follows b AfterEquals n o v ms cs out = ((rest : List ℕ) × (cs ≡ 126 ∷ rest) × FollowsOperator b n Matches v ms rest out) ⊎ FollowsOperator b n o v ms cs out
 Follows b ValueStart n o v ms cs out = FollowsOperator b n o v ms cs out
 Follows b ValueLiteral n o v ms cs out = AfterLiteral (ByValue b n o ms out) v cs

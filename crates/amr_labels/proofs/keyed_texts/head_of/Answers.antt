@@ -16,18 +16,14 @@ pub returns-in-None : goal.returns-in-None
 unfolding text_head
 returns-in-None c =
     let key = c.args.key.now in
+    let outside = rw (c.as_bytes-2.ensures.value, c.as_bytes.ensures.value) at c.in-None.ensures.cases in
     c.headed-in-None.ensures ∙ ap (with_head 7 0) c.as_bytes-in-None.ensures.value
-    ∙ sym (head_outside c.as_bytes-2.result.now c.as_bytes.result.now c.in-None.ensures.cases
-    ∙ (λ i. cond (is_lt (text_cmp (c.as_bytes.ensures.value i) (c.as_bytes-2.ensures.value i))) (with_head 7 0 (c.as_bytes.ensures.value i)) (with_head 7 2 (c.as_bytes.ensures.value i)))
-    ∙ ap (λ b. cond b (with_head 7 0 key) (with_head 7 2 key)) (sym c.lt.ensures ∙ c.if-lt.true))
-    ∙ (λ i. head_past (c.as_bytes-2.ensures.value i) (c.as_bytes.ensures.value i))
+    ∙ sym (head_outside _ key outside ∙ ap (λ b. cond b (with_head 7 0 key) (with_head 7 2 key)) (sym c.lt.ensures ∙ c.if-lt.true))
 
 pub returns-in-None-2 : goal.returns-in-None-2
 unfolding text_head
 returns-in-None-2 c =
     let key = c.args.key.now in
+    let outside = rw (c.as_bytes-2.ensures.value, c.as_bytes.ensures.value) at c.in-None-2.ensures.cases in
     c.headed-in-None-2.ensures ∙ ap (with_head 7 2) c.as_bytes-in-None-2.ensures.value
-    ∙ sym (head_outside c.as_bytes-2.result.now c.as_bytes.result.now c.in-None-2.ensures.cases
-    ∙ (λ i. cond (is_lt (text_cmp (c.as_bytes.ensures.value i) (c.as_bytes-2.ensures.value i))) (with_head 7 0 (c.as_bytes.ensures.value i)) (with_head 7 2 (c.as_bytes.ensures.value i)))
-    ∙ ap (λ b. cond b (with_head 7 0 key) (with_head 7 2 key)) (sym c.lt.ensures ∙ c.if-lt.false))
-    ∙ (λ i. head_past (c.as_bytes-2.ensures.value i) (c.as_bytes.ensures.value i))
+    ∙ sym (head_outside _ key outside ∙ ap (λ b. cond b (with_head 7 0 key) (with_head 7 2 key)) (sym c.lt.ensures ∙ c.if-lt.false))

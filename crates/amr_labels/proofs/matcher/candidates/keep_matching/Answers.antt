@@ -1,4 +1,5 @@
-use Rattle.std.proofs.Common.{◌≡◌, ◌∙◌, ◌+◌, [], ◌∷◌, false, drop, sym, ap, drop-cons, add-one, drop_of_length-le, arith}
+use Rattle.std.proofs.Common.{◌≡◌, ◌∙◌, ◌+◌, [], ◌∷◌, false, drop, sym, ap}
+use Rattle.std.proofs.lemmas.List.{drop_more, drop_all}
 use Rattle.std.specs.List.{list_any}
 use Rattle.amr_labels.specs.Matcher.Matchers.{all_hold}
 use Rattle.amr_labels.specs.Matcher.Candidates.{kept_by_all}
@@ -18,7 +19,7 @@ loop-matcher-preserved c =
     let index = c.loop-matcher.matcher-index in
     let matcher = c.matcher-item.result in
     let next : drop index matchers ≡ matcher ∷ drop (index + 1) matchers =
-    rw add-one (drop-cons matchers index matcher c.loop-matcher-test.true) ∙ ap (λ first. first ∷ drop (index + 1) matchers) (sym c.matcher-item.is) in
+    drop_more matchers index matcher c.loop-matcher-test.true ∙ ap (λ first. first ∷ drop (index + 1) matchers) (sym c.matcher-item.is) in
     ap (kept_by_all (drop (index + 1) matchers) label_sets) c.in_ok-keep.ensures
     ∙ kept_by_first matcher (drop (index + 1) matchers) label_sets c.loop-matcher.candidates
     ∙ ap (λ left. kept_by_all left label_sets c.loop-matcher.candidates) (sym next)
@@ -26,8 +27,6 @@ loop-matcher-preserved c =
 
 pub returns : goal.returns
 returns c =
-    let matchers = c.args.matchers.now in
-    let none : drop c.loop-matcher.matcher-index matchers ≡ [] = drop_of_length-le matchers {i = c.loop-matcher.matcher-index} (omega (arith, c.loop-matcher-test.false)) in
     sym (kept_by_none c.args.label_sets.now c.loop-matcher.candidates)
-    ∙ ap (λ left. kept_by_all left c.args.label_sets.now c.loop-matcher.candidates) (sym none)
+    ∙ ap (λ left. kept_by_all left c.args.label_sets.now c.loop-matcher.candidates) (sym (drop_all _ _ c.loop-matcher-test.false))
     ∙ c.loop-matcher.invariant
