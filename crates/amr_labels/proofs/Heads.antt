@@ -7,6 +7,7 @@ use Rattle.std.specs.declared.cmp.Ordering.TheVariants.{Less, Equal, Greater}
 use Rattle.std.specs.Ordering.{nat_cmp, ordering_index, ordering_then, ordering_reverse, match_ordering, MatchOrdering, is_lt}
 use Rattle.std.proofs.lemmas.Cmp.{ranked, nat_cmp_total}
 use Rattle.std.proofs.lemmas.Bool.{true≢false}
+use Rattle.std.proofs.lemmas.Bool.Decides.{nat_tests}
 use Rattle.std.proofs.lemmas.List.{get_or-drop, take-append-drop}
 use Rattle.amr_labels.specs.Labels.{Text, text_cmp}
 use Rattle.amr_labels.specs.Head.{with_head, standing, head_past}
@@ -61,44 +62,24 @@ heads_decide (suc n) x (a ∷ s) (b ∷ t) h l =
 abbrev Before : Ordering → Ordering → Type 0
 Before r q = ordering_index r < ordering_index q
 
+first_apart : (a b p : ℕ) (r q o : Ordering) → (Before r q → o ≡ Less) → Before (ordering_then (nat_cmp a p) r) (ordering_then (nat_cmp b p) q) → ordering_then (nat_cmp a b) o ≡ Less
+first_apart a b p r q o later h = grind (arith, nat_tests, at_most_two)
+
 -- of two texts that stand apart the first is the lesser
 apart : (ps s t : Text) → Before (standing ps s) (standing ps t) → text_cmp s t ≡ Less
 apart [] s t h = absurd (omega (arith, h))
 apart (p ∷ ps) [] [] h = absurd (omega (arith, h))
 apart (p ∷ ps) [] (b ∷ t) h = refl
 apart (p ∷ ps) (a ∷ s) [] h = absurd (omega (arith, h))
-apart (p ∷ ps) (a ∷ s) (b ∷ t) h =
-    by (apart ps s t) (nat_cmp a p) (ranked a p (nat_cmp a p) refl) (nat_cmp b p) (ranked b p (nat_cmp b p) refl) h
-  where
-    lesser : a < b → ordering_then (nat_cmp a b) (text_cmp s t) ≡ Less
-    lesser h = ap (λ r. ordering_then r (text_cmp s t)) (below a b h)
+apart (p ∷ ps) (a ∷ s) (b ∷ t) h = first_apart a b p (standing ps s) (standing ps t) (text_cmp s t) (apart ps s t) h
 
-    by : (Before (standing ps s) (standing ps t) → text_cmp s t ≡ Less)
-        → (r : Ordering) → MatchOrdering r (a < p) (a ≡ p) (p < a) → (q : Ordering) → MatchOrdering q (b < p) (b ≡ p) (p < b)
-        → Before (ordering_then r (standing ps s)) (ordering_then q (standing ps t))
-        → ordering_then (nat_cmp a b) (text_cmp s t) ≡ Less
-    by later Less f Equal g m = let under : a < p = f in let level : b ≡ p = g in lesser (omega (arith, under, level))
-    by later Less f Greater g m = let under : a < p = f in let over : p < b = g in lesser (omega (arith, under, over))
-    by later Equal f Equal g m =
-        ap (λ r. ordering_then r (text_cmp s t)) ((λ i. nat_cmp (f i) (g i)) ∙ tied_itself nat_cmp_total p)
-        ∙ later m
-    by later Equal f Greater g m = let level : a ≡ p = f in let over : p < b = g in lesser (omega (arith, level, over))
-    by later _ f q g m = absurd (omega (arith, m, at_most_two (ordering_then q (standing ps t))))
+first_among : (a b p : ℕ) (r q o rest : Ordering) → (r ≡ Equal → q ≡ Equal → o ≡ rest) → ordering_then (nat_cmp a p) r ≡ Equal → ordering_then (nat_cmp b p) q ≡ Equal → ordering_then (nat_cmp a b) o ≡ rest
+first_among a b p r q o rest later e f = grind (arith, nat_tests)
 
 -- texts among those that begin with the prefix are ordered as what follows it
 among : (ps s t : Text) → standing ps s ≡ Equal → standing ps t ≡ Equal → text_cmp s t ≡ text_cmp (drop (length ps) s) (drop (length ps) t)
 among [] s t e f = refl
-among (p ∷ ps) (a ∷ s) (b ∷ t) e f =
-    by (among ps s t) (nat_cmp a p) (ranked a p (nat_cmp a p) refl) (nat_cmp b p) (ranked b p (nat_cmp b p) refl) e f
-  where
-    by : (standing ps s ≡ Equal → standing ps t ≡ Equal → text_cmp s t ≡ text_cmp (drop (length ps) s) (drop (length ps) t))
-        → (r : Ordering) → MatchOrdering r (a < p) (a ≡ p) (p < a) → (q : Ordering) → MatchOrdering q (b < p) (b ≡ p) (p < b)
-        → ordering_then r (standing ps s) ≡ Equal → ordering_then q (standing ps t) ≡ Equal
-        → ordering_then (nat_cmp a b) (text_cmp s t) ≡ text_cmp (drop (length ps) s) (drop (length ps) t)
-    by later Equal l Equal g e f =
-        ap (λ r. ordering_then r (text_cmp s t)) ((λ i. nat_cmp (l i) (g i)) ∙ tied_itself nat_cmp_total p)
-        ∙ later e f
-    by later _ l _ g e f = cc
+among (p ∷ ps) (a ∷ s) (b ∷ t) e f = first_among a b p (standing ps s) (standing ps t) (text_cmp s t) _ (among ps s t) e f
 among (p ∷ ps) _ _ e f = cc
 
 -- the text with the lesser head is the lesser

@@ -3,7 +3,7 @@ use Rattle.std.proofs.Common.{◌≡◌, ℕ, ◌+◌, ◌<◌, ◌≤◌, List,
 use Rattle.std.specs.Prelude.{encode_utf8, encode_utf8_all, chars, option_and_then}
 use Rattle.std.specs.Str.{IsUtf8, is_utf8, bytes_eq, all_scalars}
 use Rattle.std.proofs.lemmas.Bool.{and_parts}
-use Rattle.std.proofs.lemmas.Str.{is_utf8-from_IsUtf8}
+use Rattle.std.proofs.lemmas.Str.{encodes-append, is_utf8-from_IsUtf8}
 use Rattle.std.proofs.lemmas.Slice.Eq.{bytes_eq-Decides}
 use Rattle.std.proofs.lemmas.List.{take_more, length-append, append-nil, take-append-drop}
 use Rattle.amr_labels.specs.Matcher.MatcherReading.{Reading, next, run, start}
@@ -20,10 +20,6 @@ run-none (c ∷ cs) = run-none cs
 pub run_more : (cs : List ℕ) (n c : ℕ) (r : Reading) → n < length cs → c ≡ get_or cs n c → run (Some start) (take n cs) ≡ Some r → run (Some start) (take (n + 1) cs) ≡ next r c
 run_more cs n c r lt is h =
     ap (run (Some start)) (take_more cs n c lt ∙ ap (λ x. take n cs ++ x ∷ []) (sym is)) ∙ run-append (Some start) (take n cs) (c ∷ []) ∙ ap (λ o. run o (c ∷ [])) h
-
-pub encodes-append : (xs ys : List ℕ) → encode_utf8_all (xs ++ ys) ≡ encode_utf8_all xs ++ encode_utf8_all ys
-encodes-append [] ys = refl
-encodes-append (x ∷ xs) ys = ap (λ t. encode_utf8 x ++ t) (encodes-append xs ys) ∙ sym (append_assoc (encode_utf8 x) (encode_utf8_all xs) (encode_utf8_all ys))
 
 -- the prefixes of a text are no longer than it
 pub encoded_front : (cs : List ℕ) (n : ℕ) → length (encode_utf8_all (take n cs)) ≤ length (encode_utf8_all cs)

@@ -6,6 +6,7 @@ use Rattle.std.specs.List.{list_all}
 use Rattle.std.specs.Char.{is_whitespace}
 use Rattle.std.proofs.lemmas.Bool.{and_parts, false≢true, not-true}
 use Rattle.std.proofs.lemmas.List.{append-nil}
+use Rattle.std.proofs.lemmas.Str.{encodes-append}
 use Rattle.amr_labels.specs.declared.matcher.Operator.{Operator}
 use Rattle.amr_labels.specs.declared.matcher.Operator.TheVariants.{Equal, NotEqual, Matches, NotMatches}
 use Rattle.amr_labels.specs.declared.matcher.matcher_steps.Kind.{Kind}
@@ -19,7 +20,6 @@ use Rattle.amr_labels.specs.Matcher.Matchers.{Matcher}
 use Rattle.amr_labels.specs.Matcher.MatcherText.{is_literal, is_refused, Piece, Character, Escape, piece_text, piece_value, is_piece, pieces_text, pieces_value, Term, Literal, Quoted, term_text, term_value, is_term, is_name, operator_text, is_blank, Written, written_text, written_matcher, IsWritten, Listed, Alone, Last, Then, listed_text, listed_matchers, IsListed, Whole, Bare, Braced, whole_text, whole_matchers, IsWhole, Spells}
 use Rattle.amr_labels.specs.Matcher.MatcherReading.{Reading, kind_of, begins_matcher, after_name, ends_value, begins_value, in_name, in_value, after_bang, after_equals, at_start, after_braces, in_quotes, step_at, step_from, with_part, next, run, start, ending, matchers_at_end, matchers_of_chars, matchers_of, go}
 use Rattle.amr_labels.specs.Matcher.MatcherLaws.{SpelledIsRead}
-use Rattle.amr_labels.proofs.MatcherLemmas.MatcherRuns.{encodes-append}
 use Rattle.amr_labels.proofs.MatcherLemmas.MatcherKinds.{kind_of_blank, kind_of_literal}
 
 abbrev pub reading : Bool → Mode → Text → Operator → Text → List Matcher → Reading
