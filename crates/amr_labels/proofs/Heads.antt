@@ -40,6 +40,9 @@ least : (n x y : ℕ) (s : Text) → x ≤ y → with_head n x [] ≤ with_head 
 least zero x y s l = l
 least (suc n) x y s l = rw (next_digit n y s) (least n (x * 256) _ (drop 1 s) (omega (arith, l)))
 
+first_decides : (a b head_t : ℕ) (head_s : ℕ → ℕ) (o : Ordering) → (head_s b < head_t → o ≡ Less) → (b < a → head_t < head_s a) → head_s a < head_t → ordering_then (nat_cmp a b) o ≡ Less
+first_decides a b head_t head_s o later over l = grind (arith, nat_tests)
+
 -- the first digits that differ decide
 heads_decide : (n x : ℕ) (s t : Text) → AreBytes t → with_head n x s < with_head n x t → text_cmp s t ≡ Less
 heads_decide zero x s t h l = absurd (omega (arith, l))
@@ -47,15 +50,9 @@ heads_decide (suc n) x [] [] h l = heads_decide n (x * 256) [] [] h l
 heads_decide (suc n) x [] (b ∷ t) h l = refl
 heads_decide (suc n) x (a ∷ s) [] h l = absurd (omega (arith, l, least n (x * 256) (x * 256 + a) s (omega arith)))
 heads_decide (suc n) x (a ∷ s) (b ∷ t) h l =
-    by (heads_decide n (x * 256 + b) s t (dropped_are_bytes 1 (b ∷ t) h)) (nat_cmp a b) (ranked a b (nat_cmp a b) refl)
-  where
-    by : (with_head n (x * 256 + b) s < with_head n (x * 256 + b) t → text_cmp s t ≡ Less)
-        → (r : Ordering) → MatchOrdering r (a < b) (a ≡ b) (b < a) → ordering_then r (text_cmp s t) ≡ Less
-    by later Less f = refl
-    by later Equal f = later (subst (λ c. with_head n (x * 256 + c) s < with_head n (x * 256 + b) t) f l)
-    by later Greater f =
-        let over : b < a = f in
-        absurd (omega (arith, l, rises n (x * 256 + b) (x * 256 + a) t s (dropped_are_bytes 1 (b ∷ t) h) (omega (arith, over))))
+    let bytes = dropped_are_bytes 1 (b ∷ t) h in
+    first_decides a b (with_head n (x * 256 + b) t) (λ c. with_head n (x * 256 + c) s) (text_cmp s t) (heads_decide n (x * 256 + b) s t bytes)
+    (λ over. rises n (x * 256 + b) (x * 256 + a) t s bytes (omega (arith, over))) l
 
 -- ---- texts before, among and after those that begin with a prefix
 
@@ -82,40 +79,28 @@ among [] s t e f = refl
 among (p ∷ ps) (a ∷ s) (b ∷ t) e f = first_among a b p (standing ps s) (standing ps t) (text_cmp s t) _ (among ps s t) e f
 among (p ∷ ps) _ _ e f = cc
 
+one_differs : (r q o : Ordering) (s0 s1 s2 t0 t1 t2 : ℕ) → (Before r q → o ≡ Less) → (s0 < t0 → o ≡ Less) → (r ≡ Equal → q ≡ Equal → s1 < t1 → o ≡ Less) → (s2 < t2 → o ≡ Less)
+    → t0 < s1 → t0 < s2 → t1 < s2 → match_ordering r s0 s1 s2 < match_ordering q t0 t1 t2 → o ≡ Less
+one_differs r q o s0 s1 s2 t0 t1 t2 before first same last low lowest lower l = grind arith
+
 -- the text with the lesser head is the lesser
 pub heads_differ : (ps s t : Text) → AreBytes s → AreBytes t → head_past ps s < head_past ps t → text_cmp s t ≡ Less
-heads_differ ps s t hs ht = by (standing ps s) (standing ps t) refl refl
-  where
-    later_s : Text
-    later_s = drop (length ps) s
+heads_differ ps s t hs ht l =
+    let later_s = drop (length ps) s in
+    let later_t = drop (length ps) t in
+    let bytes = dropped_are_bytes (length ps) t ht in
+    one_differs (standing ps s) (standing ps t) (text_cmp s t) _ _ _ _ _ _ (apart ps s t) (heads_decide 7 0 s t ht)
+    (λ e f less. among ps s t e f ∙ heads_decide 7 1 later_s later_t bytes less) (heads_decide 7 2 s t ht)
+    (rises 7 0 1 t later_s ht (omega arith)) (rises 7 0 2 t s ht (omega arith)) (rises 7 1 2 later_t s bytes (omega arith)) l
 
-    later_t : Text
-    later_t = drop (length ps) t
-
-    parted : (r q : Ordering) → standing ps s ≡ r → standing ps t ≡ q → Before r q → text_cmp s t ≡ Less
-    parted r q e f h = apart ps s t (subst (λ (x : Ordering × Ordering). Before x.0 x.1) (λ i. (sym e i, sym f i)) h)
-
-    by : (r q : Ordering) → standing ps s ≡ r → standing ps t ≡ q
-        → match_ordering r (with_head 7 0 s) (with_head 7 1 later_s) (with_head 7 2 s) < match_ordering q (with_head 7 0 t) (with_head 7 1 later_t) (with_head 7 2 t)
-        → text_cmp s t ≡ Less
-    by Less Less e f l = heads_decide 7 0 s t ht l
-    by Less q e f l = parted Less q e f (omega arith)
-    by Equal Less e f l = let over = rises 7 0 1 t later_s ht (omega arith) in absurd (omega (arith, l, over))
-    by Equal Equal e f l = among ps s t e f ∙ heads_decide 7 1 later_s later_t (dropped_are_bytes (length ps) t ht) l
-    by Equal Greater e f l = parted Equal Greater e f (omega arith)
-    by Greater Less e f l = let over = rises 7 0 2 t s ht (omega arith) in absurd (omega (arith, l, over))
-    by Greater Equal e f l = let over = rises 7 1 2 later_t s (dropped_are_bytes (length ps) t ht) (omega arith) in absurd (omega (arith, l, over))
-    by Greater Greater e f l = heads_decide 7 2 s t ht l
+numbers_tell : (x y : ℕ) (o : Ordering) → (x < y → o ≡ Less) → (y < x → o ≡ Greater) → (x ≡ y → ⊥) → nat_cmp x y ≡ o
+numbers_tell x y o less greater apart = grind (arith, nat_tests)
 
 -- heads that differ are ordered as the texts are
 pub heads_tell : (ps s t : Text) → AreBytes s → AreBytes t → (head_past ps s ≡ head_past ps t → ⊥) → nat_cmp (head_past ps s) (head_past ps t) ≡ text_cmp s t
 heads_tell ps s t hs ht e =
-    by (nat_cmp (head_past ps s) (head_past ps t)) (ranked (head_past ps s) (head_past ps t) (nat_cmp (head_past ps s) (head_past ps t)) refl)
-  where
-    by : (r : Ordering) → MatchOrdering r (head_past ps s < head_past ps t) (head_past ps s ≡ head_past ps t) (head_past ps t < head_past ps s) → r ≡ text_cmp s t
-    by Less f = sym (heads_differ ps s t hs ht f)
-    by Equal f = absurd (e f)
-    by Greater f = sym (nat_list_cmp_total.antisymm s t ∙ ap ordering_reverse (heads_differ ps t s ht hs f))
+    numbers_tell (head_past ps s) (head_past ps t) (text_cmp s t) (heads_differ ps s t hs ht)
+    (λ l. nat_list_cmp_total.antisymm s t ∙ ap ordering_reverse (heads_differ ps t s ht hs l)) e
 
 -- a text that begins with the prefix is among those
 begins : (ps rest : Text) → standing ps (ps ++ rest) ≡ Equal
@@ -131,20 +116,14 @@ head_inside ps text e =
     ap (standing ps) (sym (take-append-drop (length ps) text) ∙ ap (λ xs. xs ++ drop (length ps) text) ((bytes_decides (take (length ps) text) ps).0 e))
     ∙ begins ps (drop (length ps) text))
 
+first_outside : (b p : ℕ) (same : Bool) (r o : Ordering) → (same ≡ false → r ≡ cond (is_lt o) Less Greater) → (nat_eq b p && same) ≡ false
+    → ordering_then (nat_cmp b p) r ≡ cond (is_lt (ordering_then (nat_cmp b p) o)) Less Greater
+first_outside b p same r o later e = grind (arith, nat_tests)
+
 outside : (ps text : Text) → pointwise nat_eq (take (length ps) text) ps ≡ false → standing ps text ≡ cond (is_lt (text_cmp text ps)) Less Greater
 outside [] text e = absurd (true≢false e)
 outside (p ∷ ps) [] e = refl
-outside (p ∷ ps) (b ∷ bs) e = by (outside ps bs) (nat_cmp b p) (ranked b p (nat_cmp b p) refl)
-  where
-    by : (pointwise nat_eq (take (length ps) bs) ps ≡ false → standing ps bs ≡ cond (is_lt (text_cmp bs ps)) Less Greater)
-        → (r : Ordering) → MatchOrdering r (b < p) (b ≡ p) (p < b)
-        → ordering_then r (standing ps bs) ≡ cond (is_lt (ordering_then r (text_cmp bs ps))) Less Greater
-    by later Less f = refl
-    by later Equal f =
-        let level : b ≡ p = f in
-        let same : nat_eq b p ≡ true = grind arith in
-        later (ap (λ x. x && pointwise nat_eq (take (length ps) bs) ps) (sym same) ∙ e)
-    by later Greater f = refl
+outside (p ∷ ps) (b ∷ bs) e = first_outside b p _ (standing ps bs) (text_cmp bs ps) (outside ps bs) e
 
 -- and of one that does not
 pub head_outside : (ps text : Text) → pointwise nat_eq (take (length ps) text) ps ≡ false → head_past ps text ≡ cond (is_lt (text_cmp text ps)) (with_head 7 0 text) (with_head 7 2 text)
