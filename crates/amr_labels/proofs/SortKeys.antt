@@ -6,6 +6,7 @@ use Rattle.std.specs.declared.cmp.Ordering.{Ordering}
 use Rattle.std.specs.declared.cmp.Ordering.TheVariants.{Less, Equal, Greater}
 use Rattle.std.specs.Ordering.{nat_cmp, ordering_then}
 use Rattle.std.proofs.lemmas.Bool.{or_parts}
+use Rattle.std.proofs.lemmas.Bool.Decides.{nat_tests}
 use Rattle.std.proofs.lemmas.List.{append_assoc}
 use Rattle.amr_labels.specs.Labels.{Text, text_cmp, label_cmp}
 use Rattle.amr_labels.specs.SortKey.{key_of_text, key_of_label, sort_key, has_zero, label_has_zero, has_zeros}
@@ -14,31 +15,20 @@ then_then : (a b c : Ordering) → ordering_then a (ordering_then b c) ≡ order
 then_then Less b c = refl
 then_then _ b c = refl
 
-positive : (b : ℕ) → (b == 0) ≡ false → 0 < b
-positive b h = grind arith
+end_first : (b : ℕ) (text : Text) (o : Ordering) → has_zero (b ∷ text) ≡ false → ordering_then (nat_cmp 0 b) o ≡ Less
+end_first b text o h = let parts = or_parts (b == 0) (has_zero text) h in grind (arith, nat_tests)
 
-first_positive : (b : ℕ) (text : Text) → has_zero (b ∷ text) ≡ false → 0 < b
-first_positive b text h = positive b (or_parts (b == 0) (has_zero text) h).0
-
-rest_has_none : (b : ℕ) (text : Text) → has_zero (b ∷ text) ≡ false → has_zero text ≡ false
-rest_has_none b text h = (or_parts (b == 0) (has_zero text) h).1
-
-end_less : (b : ℕ) → 0 < b → nat_cmp 0 b ≡ Less
-end_less b h = sym (nat_cmp_is 0 b Less h)
-
-end_greater : (a : ℕ) → 0 < a → nat_cmp a 0 ≡ Greater
-end_greater a h = sym (nat_cmp_is a 0 Greater h)
+end_last : (b : ℕ) (text : Text) (o : Ordering) → has_zero (b ∷ text) ≡ false → ordering_then (nat_cmp b 0) o ≡ Greater
+end_last b text o h = let parts = or_parts (b == 0) (has_zero text) h in grind (arith, nat_tests)
 
 -- the keys of two texts decide, and then what follows them
 texts_decide : (s t : Text) (xs ys : List ℕ) → has_zero s ≡ false → has_zero t ≡ false
     → slice_cmp nat_cmp (key_of_text s ++ xs) (key_of_text t ++ ys) ≡ ordering_then (text_cmp s t) (slice_cmp nat_cmp xs ys)
 texts_decide [] [] xs ys hs ht = refl
-texts_decide [] (b ∷ t) xs ys hs ht =
-    ap (λ o. ordering_then o (slice_cmp nat_cmp xs (key_of_text t ++ ys))) (end_less b (first_positive b t ht))
-texts_decide (a ∷ s) [] xs ys hs ht =
-    ap (λ o. ordering_then o (slice_cmp nat_cmp (key_of_text s ++ xs) ys)) (end_greater a (first_positive a s hs))
+texts_decide [] (b ∷ t) xs ys hs ht = end_first b t _ ht
+texts_decide (a ∷ s) [] xs ys hs ht = end_last a s _ hs
 texts_decide (a ∷ s) (b ∷ t) xs ys hs ht =
-    ap (ordering_then (nat_cmp a b)) (texts_decide s t xs ys (rest_has_none a s hs) (rest_has_none b t ht))
+    ap (ordering_then (nat_cmp a b)) (texts_decide s t xs ys (or_parts (a == 0) (has_zero s) hs).1 (or_parts (b == 0) (has_zero t) ht).1)
     ∙ then_then (nat_cmp a b) (text_cmp s t) (slice_cmp nat_cmp xs ys)
 
 -- the keys of two labels decide, and then what follows them

@@ -25,13 +25,12 @@ have_bits : (matchers : List Matcher) (label_sets : List LabelSet)
 have_bits matchers [] = refl
 have_bits matchers (labels ∷ label_sets) = ap (λ candidates. has_bits matchers labels ∷ candidates) (have_bits matchers label_sets)
 
+absorbed : (a b : Bool) → (b ≡ true → a ≡ true) → (a && b) ≡ b
+absorbed a b h = grind arith
+
 -- that test changes nothing of the answer of all matchers
 bits_besides : (matchers : List Matcher) (labels : LabelSet) → (has_bits matchers labels && all_hold matchers labels) ≡ all_hold matchers labels
-bits_besides matchers labels =
-    elim (all_hold matchers labels) as (λ all. all_hold matchers labels ≡ all → (has_bits matchers labels && all) ≡ all) [
-      | true ↦ λ all. and-true (has_bits matchers labels) ∙ eq-eqb _ _ (matching_marked labels matchers all)
-      | false ↦ λ all. and-false (has_bits matchers labels)
-    ] refl
+bits_besides matchers labels = absorbed _ _ (λ all. eq-eqb _ _ (matching_marked labels matchers all))
 
 pub asked_each : (matchers : List Matcher) (label_sets : List LabelSet)
     → kept_by_all matchers label_sets (candidates_by_bits (required_bits matchers) (map value_bits label_sets))

@@ -1,6 +1,7 @@
 -- What the kinds of characters mean.
-use Rattle.std.proofs.Common.{◌≡◌, ℕ, Bool, true, false, not, ◌||◌, ◌&&◌, ◌==◌, if◌then◌else◌, refl, sym, ap, ◌∙◌}
+use Rattle.std.proofs.Common.{arith, ◌≡◌, ℕ, Bool, true, false, not, ◌||◌, ◌&&◌, ◌==◌, if◌then◌else◌, refl, sym, ap, ◌∙◌}
 use Rattle.std.specs.Char.{is_whitespace}
+use Rattle.std.proofs.lemmas.Bool.Decides.{nat_tests}
 use Rattle.std.proofs.lemmas.Bool.{eqb-true, false≢true, and_parts, or_parts, not-true}
 use Rattle.amr_labels.specs.declared.matcher.matcher_steps.Kind.{Kind}
 use Rattle.amr_labels.specs.declared.matcher.matcher_steps.Kind.TheVariants.{Blank, Opening, Closing, Bang, Equals, Tilde, Comma, Quote, Reserved, Plain}
@@ -24,14 +25,6 @@ chosen : (P : Kind → Type 0) (b : Bool) (x y : Kind) → (b ≡ true → P x) 
 chosen P true x y f g = f refl
 chosen P false x y f g = g refl
 
--- not a mark and not white space
-unmarked : (w a b c d e f g h i j : Bool) → w ≡ false → a ≡ false → b ≡ false → c ≡ false → d ≡ false → e ≡ false → f ≡ false → h ≡ false → (g || i || j) ≡ false →
-    (not w && not (a || b || c || d || e || f || g || h || i || j)) ≡ true
-unmarked w a b c d e f g h i j pw pa pb pc pd pe pf ph pr =
-    let r1 = or_parts (g || i) j pr in
-    let r2 = or_parts g i r1.0 in
-    rw (pw, pa, pb, pc, pd, pe, pf, r2.0, ph, r2.1, r1.1) refl
-
 mark_means : (c : ℕ) → is_whitespace c ≡ false → Means (mark_kind c) c
 mark_means c w =
     chosen (λ k. Means k c) (c == 123) Opening _ (eqb-true c 123) (λ e1.
@@ -42,7 +35,7 @@ mark_means c w =
     chosen (λ k. Means k c) (c == 44) Comma _ (eqb-true c 44) (λ e6.
     chosen (λ k. Means k c) (c == 34) Quote _ (eqb-true c 34) (λ e7.
     chosen (λ k. Means k c) ((c == 92) || (c == 39) || (c == 96)) Reserved Plain (λ _. tt) (λ e8.
-    unmarked (is_whitespace c) (c == 123) (c == 125) (c == 33) (c == 61) (c == 126) (c == 44) (c == 92) (c == 34) (c == 39) (c == 96) w e1 e2 e3 e4 e5 e6 e7 e8))))))))
+    grind (arith, nat_tests)))))))))
 
 means_of : (c : ℕ) → Means (kind_of c) c
 unfolding kind_of
@@ -55,15 +48,6 @@ pub kind_of_blank : (c : ℕ) → is_whitespace c ≡ true → kind_of c ≡ Bla
 unfolding kind_of
 kind_of_blank c h = ap (λ b. if b then Blank else mark_kind c) h
 
-plain : (a b c d e f g h i j : Bool) → (a || b || c || d || e || f || g || h || i || j) ≡ false →
-    (if a then Opening else (if b then Closing else (if c then Bang else (if d then Equals else (if e then Tilde else (if f then Comma else (if h then Quote
-    else (if g || i || j then Reserved else Plain)))))))) ≡ Plain
-plain false false false false false false false false false false p = refl
-plain a b c d e f g h i j p = absurd (false≢true (sym p))
-
 pub kind_of_literal : (c : ℕ) → is_literal c ≡ true → kind_of c ≡ Plain
 unfolding kind_of
-kind_of_literal c h =
-    let parts = and_parts (not (is_whitespace c)) (not (is_mark c)) h in
-    ap (λ b. if b then Blank else mark_kind c) (not-true (is_whitespace c) parts.0)
-    ∙ plain (c == 123) (c == 125) (c == 33) (c == 61) (c == 126) (c == 44) (c == 92) (c == 34) (c == 39) (c == 96) (not-true (is_mark c) parts.1)
+kind_of_literal c h = grind (arith, nat_tests)

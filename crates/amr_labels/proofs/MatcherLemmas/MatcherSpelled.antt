@@ -1,10 +1,11 @@
 -- What a text spells is read.
-use Rattle.std.proofs.Common.{◌≡◌, ℕ, List, [], ◌∷◌, ◌++◌, Bool, true, false, not, Option, Some, None, if◌then◌else◌, refl, sym, ap, subst, ◌∙◌, append_assoc, ◌==◌}
+use Rattle.std.proofs.Common.{arith, ◌≡◌, ℕ, List, [], ◌∷◌, ◌++◌, Bool, true, false, not, Option, Some, None, if◌then◌else◌, refl, sym, ap, subst, ◌∙◌, append_assoc, ◌==◌}
 use Rattle.std.specs.Prelude.{encode_utf8, encode_utf8_all, option_and_then, chars}
 use Rattle.std.specs.Option.{option_map}
 use Rattle.std.specs.List.{list_all}
 use Rattle.std.specs.Char.{is_whitespace}
 use Rattle.std.proofs.lemmas.Bool.{and_parts, false≢true, not-true}
+use Rattle.std.proofs.lemmas.Bool.Decides.{nat_tests}
 use Rattle.std.proofs.lemmas.List.{append-nil}
 use Rattle.std.proofs.lemmas.Str.{encodes-append}
 use Rattle.amr_labels.specs.declared.matcher.Operator.{Operator}
@@ -53,10 +54,7 @@ run_literal at more (c ∷ cs) t rest h =
 
 -- texts in quotes
 quoted_plain : (c : ℕ) (ended : Option Step) (escape : Mode) (plain : Option Step) → is_piece (Character c) ≡ true → in_quotes ended escape plain c ≡ plain
-quoted_plain c ended escape plain h =
-    let parts = and_parts (not (c == 34)) (not (c == 92)) h in
-    ap (λ b. if b then ended else (if c == 92 then go escape Nothing else plain)) (not-true (c == 34) parts.0)
-    ∙ ap (λ b. if b then go escape Nothing else plain) (not-true (c == 92) parts.1)
+quoted_plain c ended escape plain h = grind (arith, nat_tests)
 
 one : (t : Text) (c : ℕ) → t ++ encode_utf8 c ≡ t ++ encode_utf8_all (c ∷ [])
 one t c = ap (λ e. t ++ e) (sym (append-nil (encode_utf8 c)))
