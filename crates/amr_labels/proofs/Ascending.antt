@@ -7,7 +7,7 @@ use Rattle.std.specs.Option.{option_or}
 use Rattle.std.specs.FinMap.Entries.{below_all}
 use Rattle.std.specs.Ordering.{eq_by_cmp, is_eq, is_lt}
 use Rattle.std.specs.List.{IsAllAdjacentAnswer}
-use Rattle.std.proofs.lemmas.Bool.{true≢false}
+use Rattle.std.proofs.lemmas.Bool.{true≢false, false_from_ne_true}
 use Rattle.std.proofs.lemmas.List.{get_or-map, length-map, reverse-append}
 use Rattle.std.proofs.lemmas.Map.Keys.{sorted_from_all_adjacent}
 use Rattle.regex_hir.proofs.OptionLemmas.{option_or-None}
@@ -60,11 +60,7 @@ module _ {K X : Type 0} {R : K → K → Ordering} (o : IsTotalOrder R) where
   -- names ascend if those of all neighbours do
   pub ascending : (es : List (K × X)) (answer : Bool) → IsAllAdjacentAnswer (λ x y b. b ≡ is_lt (R x.0 y.0)) es answer → answer ≡ is_sorted R es
   ascending es true h = is_true _ (neighbours_decide es (λ k d within. is_less _ (h k d within)))
-  ascending es false (k, within, above) =
-      elim (is_sorted R es) as (λ b. is_sorted R es ≡ b → false ≡ b) [
-        | true ↦ λ sorted. no_neighbours es k within above sorted
-        | false ↦ λ _. refl
-      ] refl
+  ascending es false (k, within, above) = sym (false_from_ne_true _ (λ sorted. true≢false (sym (no_neighbours es k within above sorted))))
 
   -- nothing is found among greater entries
   not_above : (q x : K) (es : List (K × X)) → R q x ≡ Equal → T (below_all R x es) → find R q es ≡ None

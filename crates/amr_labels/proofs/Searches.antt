@@ -25,11 +25,10 @@ same_index o p e = rw e (omega arith)
 module _ {K : Type 0} {R : K → K → Ordering} (o : IsTotalOrder R) where
   index_rises : (x y q : K) → R x y ≡ Less → ordering_index (R x q) ≤ ordering_index (R y q)
   index_rises x y q l =
-      elim (R y q) as (λ r. R y q ≡ r → ordering_index (R x q) ≤ ordering_index r) [
-        | Less ↦ λ e. same_index _ _ (o.trans x y q l e)
-        | Equal ↦ λ e. let low : ordering_index (R x q) ≤ 0 = same_index _ _ (sym (alike_right o y q x e) ∙ l) in omega arith
-        | Greater ↦ λ e. at_most_two (R x q)
-      ] refl
+      let least = o.trans x y q l in
+      let alike = alike_right o y q x in
+      let most = at_most_two (R x q) in
+      grind arith
 
 module _ {K X : Type 0} {R : K → K → Ordering} (o : IsTotalOrder R) where
   -- each of the entries has a greater key
