@@ -18,25 +18,19 @@ key_of (text ∷ texts) = key_of_text text ++ key_of texts
 abbrev none_have_zeros : List Text → Bool
 none_have_zeros texts = list_any has_zero texts
 
-rest_of : {A : Type 0} {x y : A} {xs ys : List A} → x ∷ xs ≡ y ∷ ys → xs ≡ ys
-rest_of e = ap (drop 1) e
-
-first_of : {x y : ℕ} {xs ys : List ℕ} → x ∷ xs ≡ y ∷ ys → x ≡ y
-first_of e = ap (λ l. get_or l 0 0) e
-
 not_zero : (byte : ℕ) (text : Text) → has_zero (byte ∷ text) ≡ false → byte ≡ 0 → ⊥
 not_zero byte text h e = let none = (or_parts (byte == 0) (has_zero text) h).0 in grind (arith, none, e)
 
 module _ (texts : List Text) (others_are : (others : List Text) → length texts ≤ length others → key_of texts ≡ key_of others → texts ≡ others) where
   first_texts : (text other : Text) (others : List Text) → has_zero text ≡ false → length texts ≤ length others
       → key_of_text text ++ key_of texts ≡ key_of_text other ++ key_of others → (text ≡ other) × (texts ≡ others)
-  first_texts [] [] others h l e = (refl, others_are others l (rest_of e))
+  first_texts [] [] others h l e = (refl, others_are others l (cc))
   first_texts [] (b ∷ other) others h l e =
-      let n = ap length (others_are (other ∷ others) (omega (arith, l)) (rest_of e)) in absurd (omega (arith, n, l))
-  first_texts (a ∷ text) [] others h l e = absurd (not_zero a text h (first_of e))
+      let n = ap length (others_are (other ∷ others) (omega (arith, l)) (cc)) in absurd (omega (arith, n, l))
+  first_texts (a ∷ text) [] others h l e = absurd (not_zero a text h (cc))
   first_texts (a ∷ text) (b ∷ other) others h l e =
-      let rest = first_texts text other others (or_parts (a == 0) (has_zero text) h).1 l (rest_of e) in
-      ((λ i. first_of e i ∷ rest.0 i), rest.1)
+      let rest = first_texts text other others (or_parts (a == 0) (has_zero text) h).1 l (cc) in
+      ((cc), rest.1)
 
 same_texts : (texts others : List Text) → none_have_zeros texts ≡ false → length texts ≤ length others → key_of texts ≡ key_of others → texts ≡ others
 same_texts [] [] h l e = refl
@@ -73,7 +67,7 @@ count_is (label ∷ labels) = let n = count_is labels in omega (arith, n)
 labels_are : (labels others : List (Text × Text)) → texts_of labels ≡ texts_of others → labels ≡ others
 labels_are [] [] e = refl
 labels_are (label ∷ labels) (other ∷ others) e =
-    let rest = labels_are labels others (rest_of (rest_of e)) in
+    let rest = labels_are labels others (cc) in
     λ i. (get_or (e i) 0 [], get_or (e i) 1 []) ∷ rest i
 labels_are _ _ e = cc
 

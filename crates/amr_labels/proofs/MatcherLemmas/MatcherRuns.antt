@@ -18,8 +18,7 @@ run-none (c ∷ cs) = run-none cs
 
 -- the machine after one more character
 pub run_more : (cs : List ℕ) (n c : ℕ) (r : Reading) → n < length cs → c ≡ get_or cs n c → run (Some start) (take n cs) ≡ Some r → run (Some start) (take (n + 1) cs) ≡ next r c
-run_more cs n c r lt is h =
-    ap (run (Some start)) (take_more cs n c lt ∙ ap (λ x. take n cs ++ x ∷ []) (sym is)) ∙ run-append (Some start) (take n cs) (c ∷ []) ∙ ap (λ o. run o (c ∷ [])) h
+run_more cs n c r lt is h = rw (take_more cs n c lt, ← is, run-append, h) refl
 
 -- the prefixes of a text are no longer than it
 pub encoded_front : (cs : List ℕ) (n : ℕ) → length (encode_utf8_all (take n cs)) ≤ length (encode_utf8_all cs)
@@ -28,10 +27,7 @@ encoded_front cs n =
     omega (arith, ap length e ∙ length-append (encode_utf8_all (take n cs)) (encode_utf8_all (drop n cs)))
 
 pub encoded_more : (cs : List ℕ) (n c : ℕ) → n < length cs → c ≡ get_or cs n c → length (encode_utf8_all (take (n + 1) cs)) ≡ length (encode_utf8_all (take n cs)) + length (encode_utf8 c)
-encoded_more cs n c lt is =
-    let e : encode_utf8_all (take (n + 1) cs) ≡ encode_utf8_all (take n cs) ++ encode_utf8_all (c ∷ []) = ap encode_utf8_all (take_more cs n c lt ∙ ap (λ x. take n cs ++ x ∷ []) (sym is)) ∙ encodes-append (take n cs) (c ∷ []) in
-    let one : encode_utf8_all (c ∷ []) ≡ encode_utf8 c = append-nil (encode_utf8 c) in
-    ap length e ∙ length-append (encode_utf8_all (take n cs)) (encode_utf8_all (c ∷ [])) ∙ ap (λ t. length (encode_utf8_all (take n cs)) + length t) one
+encoded_more cs n c lt is = rw (take_more cs n c lt, ← is, encodes-append, length-append, append-nil) refl
 
 pub encoded : (bs : List ℕ) → IsUtf8 bs → encode_utf8_all (chars bs) ≡ bs
 unfolding is_utf8
