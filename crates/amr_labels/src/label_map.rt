@@ -34,6 +34,7 @@ impl<V> Model for LabelMap<V> {
 
 impl<V: Drop> LabelMap<V> {
     /// Returns an empty map.
+    #[tactic(auto, using(crate::proofs::Trees::empty_of_tree))]
     pub fn new(alloc: Global) -> LabelMap<V>
         ensures { result ≡ map.empty }
     {
@@ -43,6 +44,7 @@ impl<V: Drop> LabelMap<V> {
     }
 
     /// Returns the value under a label set.
+    #[tactic(auto, using(crate::proofs::Trees::get_of_tree))]
     pub fn get(&self, labels: &Labels) -> Option<&V>
         ensures { option_copied result ≡ map.get self.now labels.now }
     {
@@ -59,6 +61,7 @@ impl<V: Drop> LabelMap<V> {
     }
 
     /// Returns an iterator over the label sets and their values, in the order of the label sets.
+    #[tactic(auto, using(crate::proofs::Trees::entries_of_tree))]
     pub fn iter(&self) -> Iter<'_, Labels, V>
         ensures { result ≡ map.entries self.now }
     {

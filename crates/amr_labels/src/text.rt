@@ -77,6 +77,7 @@ impl PartialEq for Text {
 
     ghost laws = { Prim.search (comparing, rules) };
 
+    #[tactic(auto, using(crate::proofs::Firsts::same_texts))]
     fn eq(&self, other: &Text) -> bool {
         self.as_str() == other.as_str()
     }

@@ -1,8 +1,0 @@
-use Rattle.std.proofs.Common.{sym, ap, ◌∙◌}
-use Rattle.amr_labels.specs.Map as map
-use Rattle.amr_labels.specs.Labels.{label_set_cmp}
-use Rattle.amr_labels.proofs.Trees.{entries_of_tree}
-use Rattle.amr_labels.proofs.label_map.LabelMap.iter.Goals as goal
-
-pub returns : goal.returns
-returns g c = c.iter.ensures.rest ∙ sym (entries_of_tree label_set_cmp c.self.inside.tree c.self.invariant) ∙ ap map.entries c.self.view_is
