@@ -238,6 +238,7 @@ fn is_joined(key: &str, stated: &[(&str, &str)]) -> bool
 }
 
 /// Returns what follows the key of a name and its value, if a key begins with it.
+#[tactic(auto, using(crate::proofs::KeyTexts::not_both))]
 fn after_label<'a>(key: &'a [u8], name: &str, value: &str) -> Option<&'a [u8]>
     ensures rest { IfSome result (λ rest. key.now
         ≡ key_of_label (name.now, value.now) ++ rest.now) }

@@ -144,6 +144,7 @@ fn text_under<'a>(pairs: &'a [(Text, Text)], name: &str) -> Option<&'a Text>
 }
 
 /// Returns the text under a name. It compares one name after the other.
+#[tactic(auto, using(crate::proofs::Firsts::found_from))]
 fn first_under<'a>(pairs: &'a [(Text, Text)], name: &str) -> Option<&'a Text>
     ensures { option_copied result ≡ find text_cmp name.now pairs.now }
 {
@@ -179,6 +180,7 @@ fn searched<'a>(pairs: &'a [(Text, Text)], name: &str) -> Option<&'a Text>
 
 impl TextMap {
     /// Returns an empty map.
+    #[tactic(auto, using(crate::proofs::Trees::empty_of_entries))]
     pub fn empty(alloc: Global) -> Result<TextMap, AllocError>
         ensures { IfOk result (λ texts. texts ≡ map.empty) }
     {

@@ -4,6 +4,7 @@ ghost use Rattle.amr_labels.specs.Matcher.MatcherLaws.{ReadIsSpelled, SpelledIsR
 
 /// Says that a text that is read as a list of matchers spells that list: matchers separated by
 /// commas, in braces or not.
+#[tactic(auto, using(crate::proofs::MatcherLemmas::MatcherRead::read_is_spelled))]
 pub fn what_is_read_is_spelled()
     ensures { ReadIsSpelled }
 {}

@@ -79,6 +79,7 @@ impl Matchers {
 impl Patterns {
     /// Reads a list of matchers, as `Matchers::parse` does. They share their patterns with the
     /// matchers that were made before with these.
+    #[tactic(auto, using(crate::proofs::MatcherLemmas::MatcherRead::read_is_spelled))]
     pub fn matchers_of(&mut self, alloc: Global, text: &str) -> Result<Matchers, MatcherError>
         ensures read { IfOk result (λ matchers. matchers_of text.now ≡ Some matchers) }
         ensures spelled { IfOk result (λ matchers. Spells (chars text.now) matchers) }

@@ -57,6 +57,7 @@ impl Drop for Built {
 impl Built {
     /// Keeps what `regex` built with this limit, or builds it without its groups if it is small or a
     /// search would take much memory for them.
+    #[tactic(auto, using(crate::proofs::MatcherLemmas::Finds::built_is_found))]
     pub(crate) fn new(alloc: Global, regex: Regex, limit: usize) -> Result<Built, AllocError>
         ensures { IfOk result (λ built. (pattern : Text) → IsBuiltFrom regex pattern
             → IsFoundAs (built_pattern built) pattern) }

@@ -6,9 +6,6 @@ use Rattle.amr_labels.proofs.Firsts.{found_from}
 use Rattle.amr_labels.proofs.text_map.first_under.Goals as goal
 use lib.Pointwise.{pointwise}
 
-pub loop-pair-init : goal.loop-pair-init
-loop-pair-init c = refl
-
 pub returns-then-is_named : goal.returns-then-is_named
 returns-then-is_named c =
     sym (c.loop-pair.invariant
@@ -21,6 +18,3 @@ loop-pair-preserved c =
     c.loop-pair.invariant
     ∙ found_from _ _ _ c.pair-item.result c.loop-pair-test.true false
     (ap (λ p. pointwise nat_eq p.0 c.args.name.now) (sym c.pair-item.is) ∙ sym c.is_named.ensures ∙ c.if-is_named.false)
-
-pub returns : goal.returns
-returns c = sym (c.loop-pair.invariant ∙ ap (find text_cmp c.args.name.now) (drop_all _ _ c.loop-pair-test.false))
