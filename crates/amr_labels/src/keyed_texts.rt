@@ -249,6 +249,7 @@ fn after_label<'a>(key: &'a [u8], name: &str, value: &str) -> Option<&'a [u8]>
 }
 
 /// Returns what follows the key of a text, if a key begins with it.
+#[tactic(auto, using(crate::proofs::KeyTexts::after_end, crate::proofs::KeyTexts::not_ended, crate::proofs::KeyTexts::not_begun))]
 fn after_text<'a>(key: &'a [u8], text: &str) -> Option<&'a [u8]>
     ensures rest { IfSome result (λ rest. key.now ≡ key_of_text text.now ++ rest.now) }
     ensures none { IfNone result ((rest : List ℕ) → key.now ≢ key_of_text text.now ++ rest) }

@@ -63,6 +63,7 @@ fn copies(alloc: Global, pairs: &[(Text, Text)]) -> Result<Vec<(Text, Text)>, Al
 }
 
 /// Returns the tree of the pairs. If a name is repeated, the last text counts.
+#[tactic(auto, using(crate::proofs::Trees::empty_of_tree))]
 fn tree_of(alloc: Global, pairs: &[(Text, Text)]) -> Result<BTreeMap<Text, Text>, AllocError>
     ensures ordered { IfOk result (λ tree. IsOrdered text_cmp tree) }
     ensures made { IfOk result (λ tree. map.from_sorted {R = text_cmp} tree.entries
@@ -199,6 +200,7 @@ impl TextMap {
 
     /// Returns the map of names and texts. If a name is repeated, the last text counts. Pairs in
     /// ascending order of names are only cloned, and no tree is built.
+    #[tactic(auto, using(crate::proofs::Trees::sorted_entries))]
     pub fn from_pairs(alloc: Global, pairs: &[(Text, Text)]) -> Result<TextMap, AllocError>
         ensures { IfOk result (λ texts. texts ≡ map.from_entries (reverse pairs.now)) }
     {

@@ -37,6 +37,7 @@ fn candidates_by_bits(alloc: Global, required: u64, bits: &[u64]) -> Result<Vec<
 
 /// Rules out the label sets that one of the matchers doesn't match. It asks no more once no
 /// candidate is left.
+#[tactic(auto, using(crate::proofs::MatcherLemmas::Asking::tested_in_vain))]
 fn keep_matching(
     alloc: Global,
     matchers: &[Matcher],

@@ -6,9 +6,6 @@ use Rattle.amr_labels.proofs.Pairs.{last_counts}
 use Rattle.amr_labels.proofs.Trees.{empty_of_tree, insert_of_tree}
 use Rattle.amr_labels.proofs.text_map.tree_of.Goals as goal
 
-pub loop-pair-init : goal.loop-pair-init
-loop-pair-init c = record { ordered = c.new-tree.ensures.ordered; made = empty_of_tree text_cmp c.new-tree.result c.new-tree.ensures.empty }
-
 pub loop-pair-preserved : goal.loop-pair-preserved
 loop-pair-preserved c = record {
   ordered = c.insert.ensures.ordered;

@@ -6,12 +6,6 @@ use Rattle.amr_labels.specs.Matcher.Candidates.{kept_by_all}
 use Rattle.amr_labels.proofs.MatcherLemmas.Asking.{tested_in_vain, kept_by_none, kept_by_first}
 use Rattle.amr_labels.proofs.matcher.candidates.keep_matching.Goals as goal
 
-pub returns-then-not-is_any_left : goal.returns-then-not-is_any_left
-returns-then-not-is_any_left c =
-    let candidates = c.loop-matcher.candidates in
-    let none : list_any (λ candidate. candidate) candidates ≡ false = sym c.is_any_left.ensures ∙ c.if-not-is_any_left.true in
-    sym (tested_in_vain (all_hold (drop c.loop-matcher.matcher-index c.args.matchers.now)) c.args.label_sets.now candidates none) ∙ c.loop-matcher.invariant
-
 pub loop-matcher-preserved : goal.loop-matcher-preserved
 loop-matcher-preserved c =
     let matchers = c.args.matchers.now in

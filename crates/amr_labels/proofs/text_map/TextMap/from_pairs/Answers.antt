@@ -7,16 +7,9 @@ use Rattle.amr_labels.proofs.Ascending.{ascending_map}
 use Rattle.amr_labels.proofs.Trees.{sorted_entries}
 use Rattle.amr_labels.proofs.text_map.TextMap.from_pairs.Goals as goal
 
-pub of_sorted-requires : goal.of_sorted-requires
-of_sorted-requires c =
-    rw c.in_ok-copies.ensures (rw (sym c.ascend.ensures ∙ c.if-ascend.true) tt)
-
 pub returns-then-ascend : goal.returns-then-ascend
 returns-then-ascend c =
     IfOk-weaker c.of_sorted.result _ _ (λ texts e.
     e ∙ ap (map.from_sorted {R = text_cmp}) c.in_ok-copies.ensures
     ∙ ascending_map nat_list_cmp_total text_cmp-IsAntisymmetric c.args.pairs.now (rw (sym c.ascend.ensures ∙ c.if-ascend.true) tt))
     c.of_sorted.ensures
-
-pub of_sorted-requires-2 : goal.of_sorted-requires-2
-of_sorted-requires-2 c = rw c.in_ok-sorted.ensures (sorted_entries text_cmp c.in_ok-tree.tree.entries c.in_ok-tree.ensures.ordered)
