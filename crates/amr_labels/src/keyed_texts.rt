@@ -272,6 +272,7 @@ fn keys_cmp(head: u64, key: &str, other_head: u64, other_key: &str) -> Ordering
 }
 
 /// Returns the head of a sort key.
+#[tactic(auto, using(crate::proofs::Heads::head_inside, crate::proofs::Heads::head_outside), unfolding(crate::specs::Head::text_head))]
 fn head_of(key: &str) -> u64
     ensures { result ≡ text_head key.now }
 {

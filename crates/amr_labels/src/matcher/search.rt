@@ -150,6 +150,7 @@ impl<'p> Search<'p> {
 }
 
 /// Returns whether what is searched for begins between two characters of the value.
+#[tactic(auto, using(crate::proofs::MatcherLemmas::BetweenCharacters::goes_on))]
 fn is_found(searcher: &mut Searcher<'_>, value: &str) -> bool
     ensures found { result ≡ is_some (find_str (pattern_of searcher.old.program.now) value.now 0) }
     ensures same { searcher.new.program.now ≡ searcher.old.program.now }

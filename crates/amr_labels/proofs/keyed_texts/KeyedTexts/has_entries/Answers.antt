@@ -14,8 +14,3 @@ returns-then-self-stated-clause-equal c joined =
     let count : length (entries texts) ≡ length (lent_texts c.args.stated.now) = sym c.self.invariant.5 ∙ c.if-self-stated.true ∙ sym (length-map c.args.stated.now _) in
     ap entries (sym c.self.view_is)
     ∙ of_sort_key (entries texts) (lent_texts c.args.stated.now) mine.1 count (sym mine.0 ∙ sym c.as_str.ensures.value ∙ c.is_joined.ensures.equal joined)
-
-pub returns-then-self-stated-clause-other : goal.returns-then-self-stated-clause-other
-returns-then-self-stated-clause-other c joined same =
-    let key_is = rw c.in-Some.is at c.self.invariant.0 in
-    c.is_joined.ensures.other joined (c.as_str.ensures.value ∙ key_is.0 ∙ ap (λ texts. sort_key (entries texts)) c.self.view_is ∙ ap sort_key same)

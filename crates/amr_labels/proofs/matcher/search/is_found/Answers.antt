@@ -14,18 +14,6 @@ returns-then-is_char_boundary-clause-found c =
     (found_in _ _ _ _ _ (Some (c.in-Some.from, c.in-Some.field-0-1)) c.loop-from.invariant.2 c.as_bytes.ensures.value c.in-Some.ensures.found)
     (c.is_char_boundary.ensures.test.0 c.if-is_char_boundary.true))
 
-pub overflow_add-at : goal.overflow_add-at
-overflow_add-at c =
-    let on = goes_on _ _ _ c.args.value.now c.loop-from.at c.in-Some.from c.in-Some.field-0-1 _ c.loop-from.invariant.2
-    c.as_bytes.ensures.value c.in-Some.ensures.found c.is_char_boundary.ensures.test c.if-is_char_boundary.false in
-    omega (arith, c.as_bytes.ensures.len)
-
-pub loop-from-smaller : goal.loop-from-smaller
-loop-from-smaller c =
-    let on = goes_on _ _ _ c.args.value.now c.loop-from.at c.in-Some.from c.in-Some.field-0-1 _ c.loop-from.invariant.2
-    c.as_bytes.ensures.value c.in-Some.ensures.found c.is_char_boundary.ensures.test c.if-is_char_boundary.false in
-    omega arith
-
 pub loop-from-preserved : goal.loop-from-preserved
 loop-from-preserved c =
     let on = goes_on _ _ _ c.args.value.now c.loop-from.at c.in-Some.from c.in-Some.field-0-1 _ c.loop-from.invariant.2
