@@ -7,11 +7,6 @@ use Rattle.amr_labels.proofs.MatcherLemmas.Asking.{marked_more}
 use Rattle.amr_labels.proofs.matcher.pattern.Pattern.ask_each.Goals as goal
 use Rattle.amr_labels.proofs.matcher.pattern.Pattern.ask_each.Goals.{then-candidates-index, else-candidates-index}
 
-pub passes-requires : goal.passes-requires
-unfolding IsFoundAs
-passes-requires c = λ value bytes.
-    ap (λ re. is_some (find_str re value 0)) c.loop-index.invariant.0 ∙ c.requires.search value bytes
-
 pub loop-index-preserved : goal.loop-index-preserved
 loop-index-preserved c =
     let passes = found_or_not c.args.negated c.args.self.now in
