@@ -1,6 +1,6 @@
 -- Pairs whose names strictly ascend: no name is repeated, so the map of the pairs has them as they
 -- are.
-use Rattle.std.proofs.Common.{◌≡◌, ◌+◌, ◌<◌, cond, T, List, [], ◌∷◌, ◌++◌, ℕ, suc, zero, Option, None, Some, length, map, reverse, get_or, refl, sym, ap, subst, ◌∙◌, arith, Bool, true, false}
+use Rattle.std.proofs.Common.{◌≡◌, ◌+◌, ◌<◌, cond, T, List, [], ◌∷◌, ◌++◌, ℕ, suc, zero, None, Some, length, map, reverse, get_or, refl, sym, ap, subst, ◌∙◌, arith, Bool, true, false}
 use Rattle.std.specs.Cmp.{IsTotalOrder}
 use Rattle.std.specs.FinMap.{find, is_sorted, IsAntisymmetric}
 use Rattle.std.specs.Option.{option_or}

@@ -4,7 +4,7 @@ use Rattle.std.specs.Cmp.{IsTotalOrder, tied_itself}
 use Rattle.std.specs.FinMap.{find, is_sorted}
 use Rattle.std.specs.FinMap.Entries.{below_all, where_key, is_sorted-where_key}
 use Rattle.std.specs.List.{AllByRecursion, filter, list_all}
-use Rattle.std.specs.Prelude.{◌&&◌, true, false}
+use Rattle.std.specs.Prelude.{true}
 use Rattle.std.proofs.lemmas.Bool.{and_parts}
 use Rattle.std.specs.Option.{unwrap_or}
 use Rattle.std.specs.Ordering.{is_eq, ordering_reverse}

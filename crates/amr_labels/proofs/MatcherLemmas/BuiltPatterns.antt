@@ -1,7 +1,5 @@
 -- The patterns that were built, with one more, and with none when memory runs out.
-use Rattle.std.proofs.Common.{arith, ◌≡◌, cond, Some, refl, sym, ◌∙◌, ap}
-use Rattle.std.specs.declared.cmp.Ordering.TheVariants.{Less, Equal, Greater}
-use Rattle.std.specs.Ordering.{is_eq}
+use Rattle.std.proofs.Common.{arith, ◌≡◌, Some, sym, ◌∙◌, ap}
 use Rattle.std.specs.Cmp.Lexicographic.{nat_list_cmp_total}
 use Rattle.std.specs.BTreeMap.{BTreeMap, insert_entry}
 use Rattle.std.specs.FinMap.{find}

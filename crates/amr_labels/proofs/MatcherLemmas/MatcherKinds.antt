@@ -1,11 +1,11 @@
 -- What the kinds of characters mean.
-use Rattle.std.proofs.Common.{arith, ◌≡◌, ℕ, Bool, true, false, not, ◌||◌, ◌&&◌, ◌==◌, if◌then◌else◌, refl, sym, ap, ◌∙◌}
+use Rattle.std.proofs.Common.{arith, ◌≡◌, ℕ, Bool, true, false, ◌||◌, ◌==◌, if◌then◌else◌, refl, ap}
 use Rattle.std.specs.Char.{is_whitespace}
 use Rattle.std.proofs.lemmas.Bool.Decides.{nat_tests}
-use Rattle.std.proofs.lemmas.Bool.{eqb-true, false≢true, and_parts, or_parts, not-true}
+use Rattle.std.proofs.lemmas.Bool.{eqb-true}
 use Rattle.amr_labels.specs.declared.matcher.matcher_steps.Kind.{Kind}
 use Rattle.amr_labels.specs.declared.matcher.matcher_steps.Kind.TheVariants.{Blank, Opening, Closing, Bang, Equals, Tilde, Comma, Quote, Reserved, Plain}
-use Rattle.amr_labels.specs.Matcher.MatcherText.{is_mark, is_literal}
+use Rattle.amr_labels.specs.Matcher.MatcherText.{is_literal}
 use Rattle.amr_labels.specs.Matcher.MatcherReading.{mark_kind, kind_of}
 
 -- what a kind says of its characters

@@ -16,12 +16,12 @@ use Rattle.amr_labels.specs.declared.matcher.matcher_steps.Part.TheVariants.{Not
 use Rattle.amr_labels.specs.declared.matcher.matcher_steps.Step.{Step}
 use Rattle.amr_labels.specs.Labels.{Text}
 use Rattle.amr_labels.specs.Matcher.Matchers.{Matcher}
-use Rattle.amr_labels.specs.Matcher.MatcherText.{is_literal, is_refused, meaning_of_escape, Piece, Character, Escape, is_piece, pieces_text, pieces_value, Term, Literal, Quoted, term_text, term_value, is_term, is_name, operator_text, is_blank, Written, written_text, written_matcher, Listed, Alone, Last, Then, listed_text, listed_matchers, IsListed, Bare, Braced, Spells}
-use Rattle.amr_labels.specs.Matcher.MatcherReading.{Reading, kind_of, begins_matcher, after_name, ends_value, begins_value, in_name, in_value, after_bang, after_equals, at_start, after_braces, in_quotes, step_from, with_part, run, ending, matchers_at_end, matchers_of_chars, matchers_of, go}
+use Rattle.amr_labels.specs.Matcher.MatcherText.{is_literal, is_refused, meaning_of_escape, Piece, Character, Escape, is_piece, pieces_text, pieces_value, Term, Literal, Quoted, term_text, term_value, is_term, is_name, operator_text, is_blank, Written, written_matcher, Listed, Alone, Last, Then, listed_text, listed_matchers, IsListed, Bare, Braced, Spells}
+use Rattle.amr_labels.specs.Matcher.MatcherReading.{Reading, kind_of, begins_matcher, after_name, ends_value, begins_value, in_name, in_value, after_bang, after_equals, at_start, after_braces, step_from, with_part, run, ending, matchers_at_end, matchers_of_chars, matchers_of, go}
 use Rattle.amr_labels.specs.Matcher.MatcherLaws.{ReadIsSpelled}
 use Rattle.amr_labels.proofs.MatcherLemmas.MatcherRuns.{run-none}
 use Rattle.amr_labels.proofs.MatcherLemmas.MatcherKinds.{means}
-use Rattle.amr_labels.proofs.MatcherLemmas.MatcherSpelled.{reading, moved, grouped, pieces_encoded}
+use Rattle.amr_labels.proofs.MatcherLemmas.MatcherSpelled.{reading, moved, pieces_encoded}
 
 -- from a reading, and from a step, the characters lead to an end with these matchers
 abbrev Accepts : Reading → List ℕ → List Matcher → Type 0

@@ -1,20 +1,18 @@
 -- Matchers that match a label set ask for no bit that its values don't have.
-use Rattle.std.proofs.Common.{◌≡◌, ℕ, Bool, true, false, ◌&&◌, cond, List, [], ◌∷◌, Option, Some, max, arith, refl, sym, ap, subst, ◌∙◌}
+use Rattle.std.proofs.Common.{◌≡◌, ℕ, true, false, cond, List, [], ◌∷◌, Option, Some, arith, refl, sym, ap, subst, ◌∙◌}
 use Rattle.std.specs.Prelude.{fold, bit_or}
-use Rattle.std.specs.Int.{bit_at}
 use Rattle.std.specs.Int.Bits.{or_self, or_zero_l}
 use Rattle.std.proofs.lemmas.Bool.{and_parts}
 use Rattle.std.proofs.lemmas.Bool.Decides.{nat_tests}
 use Rattle.std.proofs.lemmas.Map.Views.{tells_apart}
 use Rattle.std.proofs.lemmas.Nat.{or_comm}
 use Rattle.std.proofs.lemmas.Nat.Bits.{bit_at_or, same_from_bits}
-use Rattle.std.specs.declared.cmp.Ordering.TheVariants.{Less, Equal as Same, Greater}
 use Rattle.std.specs.Option.{unwrap_or}
-use Rattle.std.specs.Ordering.{is_eq, eq_by_cmp}
+use Rattle.std.specs.Ordering.{is_eq}
 use Rattle.std.specs.FinMap.{find}
 use Rattle.amr_labels.specs.Map.{entries, get-entries}
 use Rattle.amr_labels.specs.Labels.{Text, LabelSet, text_cmp, text_cmp-IsAntisymmetric, is_empty, value_of}
-use Rattle.amr_labels.specs.declared.matcher.Operator.TheVariants.{Equal, NotEqual, Matches, NotMatches}
+use Rattle.amr_labels.specs.declared.matcher.Operator.TheVariants.{Equal}
 use Rattle.amr_labels.specs.Matcher.Matchers.{Matcher, compares, holds, all_hold}
 use Rattle.amr_labels.specs.Matcher.ValueBits.{value_bit, value_bits, bits_asked, required_bit, required_bits}
 

@@ -1,7 +1,7 @@
 -- A pattern is found without its groups exactly where it is found with them.
 use Rattle.std.proofs.Common.{◌≡◌, ℕ, zero, suc, ◌-◌, Bool, true, false, cond, ◌||◌, List, [], ◌∷◌, map, Option, Some, None, IsSome, is_some, option_map, refl, sym, ap, ap₂, ◌∙◌, ◌⊎◌, subst, true≢false}
 use Rattle.std.specs.Option.{option_or}
-use Rattle.regex_hir.specs.Re.{Re, empty, literal, byte_in, char_in, look, cat, alt, group, plus, Trace, Rest, accept, attempt}
+use Rattle.regex_hir.specs.Re.{Re, cat, alt, group, plus, Trace, Rest, accept, attempt}
 use Rattle.regex_hir.specs.Meaning.{meaning, cat_all, alt_all, optional, copies, up_to, at_least, repeat}
 use Rattle.regex_hir.specs.Matches.{Rounds, Matches}
 use Rattle.regex_hir.specs.Text.{is_boundary}

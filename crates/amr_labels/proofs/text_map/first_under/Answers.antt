@@ -1,7 +1,4 @@
-use Rattle.std.proofs.Common.{true, false, Some, refl, sym, ap, ◌∙◌, nat_eq}
-use Rattle.std.proofs.lemmas.List.{drop_all}
-use Rattle.std.specs.FinMap.{find}
-use Rattle.amr_labels.specs.Labels.{text_cmp}
+use Rattle.std.proofs.Common.{true, false, Some, sym, ap, ◌∙◌, nat_eq}
 use Rattle.amr_labels.proofs.Firsts.{found_from}
 use Rattle.amr_labels.proofs.text_map.first_under.Goals as goal
 use lib.Pointwise.{pointwise}

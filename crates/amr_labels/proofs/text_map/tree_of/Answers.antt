@@ -3,7 +3,7 @@ use Rattle.std.specs.Cmp.Lexicographic.{nat_list_cmp_total}
 use Rattle.amr_labels.specs.Map as map
 use Rattle.amr_labels.specs.Labels.{text_cmp}
 use Rattle.amr_labels.proofs.Pairs.{last_counts}
-use Rattle.amr_labels.proofs.Trees.{empty_of_tree, insert_of_tree}
+use Rattle.amr_labels.proofs.Trees.{insert_of_tree}
 use Rattle.amr_labels.proofs.text_map.tree_of.Goals as goal
 
 pub loop-pair-preserved : goal.loop-pair-preserved

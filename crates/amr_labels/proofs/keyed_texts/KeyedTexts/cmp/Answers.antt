@@ -1,10 +1,8 @@
-use Rattle.std.proofs.Common.{◌≡◌, ◌∙◌, false, string_bytes, subst}
-use Rattle.std.specs.Prelude.{IfSome}
+use Rattle.std.proofs.Common.{◌∙◌}
 use Rattle.std.specs.Cmp.Lexicographic.{slice_cmp}
 use Rattle.std.specs.Ordering.{nat_cmp}
 use Rattle.amr_labels.specs.Labels.{label_set_cmp}
 use Rattle.amr_labels.specs.Map.{entries}
-use Rattle.amr_labels.specs.SortKey.{sort_key, has_zeros}
 use Rattle.amr_labels.proofs.SortKeys.{by_sort_key}
 use Rattle.amr_labels.proofs.keyed_texts.KeyedTexts.cmp.Goals as goal
 

@@ -1,8 +1,6 @@
-use Rattle.std.proofs.Common.{◌≡◌, ◌∙◌, ap, sym, subst, string_bytes, false, length}
-use Rattle.std.specs.Prelude.{IfSome}
+use Rattle.std.proofs.Common.{◌≡◌, ◌∙◌, ap, sym, length}
 use Rattle.std.proofs.lemmas.List.{length-map}
 use Rattle.amr_labels.specs.Map.{entries}
-use Rattle.amr_labels.specs.SortKey.{sort_key, has_zeros}
 use Rattle.amr_labels.specs.Lent.{lent_texts}
 use Rattle.amr_labels.proofs.KeyTexts.{of_sort_key}
 use Rattle.amr_labels.proofs.keyed_texts.KeyedTexts.has_entries.Goals as goal

@@ -1,9 +1,7 @@
-use Rattle.std.proofs.Common.{◌≡◌, ◌∙◌, ap, false, string_bytes, subst}
-use Rattle.std.specs.Prelude.{IfSome}
+use Rattle.std.proofs.Common.{◌∙◌, ap}
 use Rattle.std.specs.Ordering.{eq_by_cmp, is_eq}
 use Rattle.amr_labels.specs.Labels.{text_cmp, label_set_cmp}
 use Rattle.amr_labels.specs.Map.{entries}
-use Rattle.amr_labels.specs.SortKey.{sort_key, has_zeros}
 use Rattle.amr_labels.proofs.Firsts.{same_texts}
 use Rattle.amr_labels.proofs.SortKeys.{by_sort_key}
 use Rattle.amr_labels.proofs.keyed_texts.KeyedTexts.is_equal.Goals as goal

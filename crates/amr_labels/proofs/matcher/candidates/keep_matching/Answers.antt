@@ -1,9 +1,7 @@
-use Rattle.std.proofs.Common.{◌≡◌, ◌∙◌, ◌+◌, [], ◌∷◌, false, drop, sym, ap}
+use Rattle.std.proofs.Common.{◌≡◌, ◌∙◌, ◌+◌, ◌∷◌, drop, sym, ap}
 use Rattle.std.proofs.lemmas.List.{drop_more, drop_all}
-use Rattle.std.specs.List.{list_any}
-use Rattle.amr_labels.specs.Matcher.Matchers.{all_hold}
 use Rattle.amr_labels.specs.Matcher.Candidates.{kept_by_all}
-use Rattle.amr_labels.proofs.MatcherLemmas.Asking.{tested_in_vain, kept_by_none, kept_by_first}
+use Rattle.amr_labels.proofs.MatcherLemmas.Asking.{kept_by_none, kept_by_first}
 use Rattle.amr_labels.proofs.matcher.candidates.keep_matching.Goals as goal
 
 pub loop-matcher-preserved : goal.loop-matcher-preserved

@@ -4,7 +4,6 @@ use Rattle.std.specs.Cmp.Lexicographic.{nat_list_cmp_total}
 use Rattle.amr_labels.specs.Labels.{text_cmp, text_cmp-IsAntisymmetric}
 use Rattle.amr_labels.specs.Map as map
 use Rattle.amr_labels.proofs.Ascending.{ascending_map}
-use Rattle.amr_labels.proofs.Trees.{sorted_entries}
 use Rattle.amr_labels.proofs.text_map.TextMap.from_pairs.Goals as goal
 
 pub returns-then-ascend : goal.returns-then-ascend

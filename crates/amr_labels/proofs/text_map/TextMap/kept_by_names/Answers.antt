@@ -1,9 +1,6 @@
-use Rattle.std.proofs.Common.{ap, ◌∙◌}
+use Rattle.std.proofs.Common.{◌∙◌}
 use Rattle.std.proofs.lemmas.Result.{IfOk-weaker}
 use Rattle.std.specs.Cmp.Lexicographic.{nat_list_cmp_total}
-use Rattle.std.specs.List.{filter, list_any}
-use Rattle.std.specs.Ordering.{eq_by_cmp}
-use Rattle.amr_labels.specs.Labels.{Text, text_cmp}
 use Rattle.amr_labels.proofs.Pairs.{sorted_where_key, retained}
 use Rattle.amr_labels.proofs.text_map.TextMap.kept_by_names.Goals as goal
 

@@ -1,7 +1,7 @@
 use Rattle.std.proofs.Common.{[], not, sym, ap, ◌∙◌}
 use Rattle.std.proofs.lemmas.Result.{IfOk-weaker}
 use Rattle.std.specs.Cmp.Lexicographic.{nat_list_cmp_total}
-use Rattle.std.specs.List.{filter, list_all}
+use Rattle.std.specs.List.{list_all}
 use Rattle.amr_labels.specs.Labels.{Text, is_empty}
 use Rattle.amr_labels.proofs.Pairs.{all_retained, filter_by_values, sorted_where_key, retained}
 use Rattle.amr_labels.proofs.text_map.TextMap.without_empty_texts.Goals as goal

@@ -1,7 +1,6 @@
-use Rattle.std.proofs.Common.{◌≡◌, Bool, false, ◌&&◌, get_or, ap, ◌∙◌, is_some}
-use Rattle.regex.specs.Patterns.{find_str}
+use Rattle.std.proofs.Common.{◌≡◌, Bool, false, ◌&&◌, get_or, ap, ◌∙◌}
 use Rattle.amr_labels.specs.Labels.{LabelSet, value_of}
-use Rattle.amr_labels.specs.Matcher.Searches.{IsFoundAs, search_pattern}
+use Rattle.amr_labels.specs.Matcher.Searches.{search_pattern}
 use Rattle.amr_labels.specs.Matcher.Candidates.{found_or_not}
 use Rattle.amr_labels.proofs.MatcherLemmas.Asking.{marked_more}
 use Rattle.amr_labels.proofs.matcher.pattern.Pattern.ask_each.Goals as goal
