@@ -13,7 +13,7 @@ use Rattle.std.proofs.lemmas.Map.Keys.{sorted_from_all_adjacent}
 use Rattle.regex_hir.proofs.OptionLemmas.{option_or-None}
 use Rattle.amr_labels.proofs.Trees.{sorted_entries}
 use Rattle.std.specs.declared.cmp.Ordering.{Ordering}
-use Rattle.std.specs.declared.cmp.Ordering.TheVariants.{Less, Equal, Greater}
+use Rattle.std.specs.declared.cmp.Ordering.TheVariants.{Less, Equal}
 use Rattle.amr_labels.specs.Map.{from_entries, from_sorted, entries-from_sorted, get-entries, get-from_entries, same_map}
 use Rattle.amr_labels.proofs.Sorted.{first, second, less}
 
@@ -71,9 +71,8 @@ module _ {K X : Type 0} {R : K → K → Ordering} (o : IsTotalOrder R) where
   last_or_first : (q : K) (e : K × X) (es : List (K × X)) → T (below_all R e.0 es) → option_or (find R q es) (find R q (e ∷ [])) ≡ find R q (e ∷ es)
   last_or_first q e es h =
       elim (R q e.0) as (λ r. R q e.0 ≡ r → option_or (find R q es) (cond (is_eq r) (Some e.1) None) ≡ cond (is_eq r) (Some e.1) (find R q es)) [
-        | Less ↦ λ _. option_or-None (find R q es)
         | Equal ↦ λ t. ap (λ found. option_or found (Some e.1)) (not_above q e.0 es t h)
-        | Greater ↦ λ _. option_or-None (find R q es)
+        | _ ↦ λ _. option_or-None (find R q es)
       ] refl
 
   find-reverse : (q : K) (es : List (K × X)) → T (is_sorted R es) → find R q (reverse es) ≡ find R q es

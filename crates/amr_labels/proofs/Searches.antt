@@ -57,9 +57,8 @@ module _ {K X : Type 0} {R : K → K → Ordering} (o : IsTotalOrder R) where
   none_found q (e ∷ es) h =
       let rest : find R q es ≡ None = none_found q es (λ i d within. h (suc i) d (omega arith)) in
       elim (R q e.0) as (λ r. R q e.0 ≡ r → cond (is_eq r) (Some e.1) (find R q es) ≡ None) [
-        | Less ↦ λ t. rest
         | Equal ↦ λ t. absurd (h zero e (omega arith) (o.antisymm e.0 q ∙ ap ordering_reverse t))
-        | Greater ↦ λ t. rest
+        | _ ↦ λ t. rest
       ] refl
 
   -- the result of the search

@@ -30,9 +30,8 @@ module _ {K X : Type 0} (R : K → K → Ordering) where
   put_is [] k v = refl
   put_is (e ∷ es) k v =
       elim (R k e.0) as (λ o. match_ordering o ((k, v) ∷ e ∷ es) ((e.0, v) ∷ es) (e ∷ insert_entry R es k v) ≡ by_order o ((k, v) ∷ e ∷ es) ((e.0, v) ∷ es) (e ∷ put R k v es)) [
-        | Less ↦ refl
-        | Equal ↦ refl
         | Greater ↦ ap (λ t. e ∷ t) (put_is es k v)
+        | _ ↦ refl
       ]
 
   pub lookup_is : (es : List (K × X)) (q : K) → find R q es ≡ lookup (tree.is_at (R q)) es

@@ -1,8 +1,9 @@
 -- From each state some text leads to an end, so what the machine has read is the beginning of a
 -- matcher text; if it stops, no text goes on from there.
-use Rattle.std.proofs.Common.{◌≡◌, ℕ, ◌+◌, ◌<◌, List, [], ◌∷◌, ◌++◌, length, take, drop, get_or, Bool, true, false, Option, Some, None, refl, sym, ap, subst, ◌∙◌}
+use Rattle.std.proofs.Common.{suc, ◌≡◌, ℕ, ◌+◌, ◌<◌, List, [], ◌∷◌, ◌++◌, length, take, drop, get_or, Bool, true, false, Option, Some, None, refl, sym, ap, subst, ◌∙◌}
 use Rattle.std.specs.Prelude.{IsSome, encode_utf8_all, option_and_then}
-use Rattle.std.proofs.lemmas.List.{at_drop_more, append-nil, take-append-drop}
+use Rattle.std.proofs.lemmas.List.{append-nil, take-append-drop}
+use Rattle.std.proofs.Math.Seq.{split_at}
 use Rattle.regex_hir.proofs.OptionLemmas.{value_of_IsSome}
 use Rattle.amr_labels.specs.declared.matcher.Operator.{Operator}
 use Rattle.amr_labels.specs.declared.matcher.matcher_steps.Mode.{Mode}
@@ -62,13 +63,12 @@ none_begins front h b =
 pub stops : (cs : List ℕ) (n c at : ℕ) (r : Reading) → n < length cs → c ≡ get_or cs n c → run (Some start) (take n cs) ≡ Some r → next r c ≡ None → at ≡ length (encode_utf8_all (take n cs)) → (matchers_of_chars cs ≡ None) × IsLongest cs at
 stops cs n c at r lt is h halts len =
     let stopped : run (Some start) (take (n + 1) cs) ≡ None = run_more cs n c r lt is h ∙ halts in
-    let parts : cs ≡ take n cs ++ (c ∷ drop (n + 1) cs) = sym (take-append-drop n cs) ∙ ap (λ t. take n cs ++ t) (at_drop_more (λ ys. ys) cs n c lt ∙ ap (λ x. x ∷ drop (n + 1) cs) (sym is)) in
     let next_stopped : run (Some start) (take n cs ++ c ∷ []) ≡ None = run-append (Some start) (take n cs) (c ∷ []) ∙ ap (λ o. run o (c ∷ [])) h ∙ halts in (
       ap matchers_of_chars (sym (take-append-drop (n + 1) cs)) ∙ gone (take (n + 1) cs) (drop (n + 1) cs) stopped,
       (
         take n cs,
-        c ∷ drop (n + 1) cs,
-        parts,
+        c ∷ drop (suc n) cs,
+        rw (sym is) at (split_at cs n c lt),
         len,
         begun (take n cs) r h,
         λ d more e b. let same : c ≡ d = cc in none_begins (take n cs ++ d ∷ []) (subst (λ x. run (Some start) (take n cs ++ x ∷ []) ≡ None) same next_stopped) b,

@@ -1,5 +1,6 @@
 -- A pattern is found without its groups exactly where it is found with them.
-use Rattle.std.proofs.Common.{◌≡◌, ℕ, zero, suc, ◌-◌, Bool, true, false, cond, ◌||◌, List, [], ◌∷◌, map, Option, Some, None, IsSome, is_some, option_map, refl, sym, ap, ap₂, ◌∙◌, ◌⊎◌, subst, true≢false}
+use Rattle.std.proofs.Common.{◌≡◌, ℕ, zero, suc, ◌-◌, Bool, true, false, cond, ◌||◌, List, [], ◌∷◌, map, Option, Some, None, IsSome, is_some, option_map, refl, sym, ap, ap₂, ◌∙◌, ◌⊎◌, subst}
+use Rattle.std.specs.Cmp.{both_ways}
 use Rattle.std.specs.Option.{option_or}
 use Rattle.regex_hir.specs.Re.{Re, cat, alt, group, plus, Trace, Rest, accept, attempt}
 use Rattle.regex_hir.specs.Meaning.{meaning, cat_all, alt_all, optional, copies, up_to, at_least, repeat}
@@ -28,14 +29,9 @@ found_too hay a b i h some =
     let way = attempt_sound hay a accept i found.0 found.1 in
     attempt_complete hay b accept i way.at (h way.at way.leads) refl
 
-same_test : {A : Type 0} (o p : Option A) → (IsSome o → IsSome p) → (IsSome p → IsSome o) → is_some o ≡ is_some p
-same_test None (Some y) f g = absurd (true≢false (sym (g refl)))
-same_test (Some x) None f g = absurd (true≢false (sym (f refl)))
-same_test _ _ f g = refl
-
 found_at : (hay : List ℕ) (re : Re) (i : ℕ) → is_some (attempt hay (without_groups re) accept i) ≡ is_some (attempt hay re accept i)
 found_at hay re i =
-    same_test (attempt hay (without_groups re) accept i) (attempt hay re accept i)
+    both_ways _ _
     (found_too hay (without_groups re) re i (λ j. subst (λ X. X) (same_matches hay re i j)))
     (found_too hay re (without_groups re) i (λ j. subst (λ X. X) (sym (same_matches hay re i j))))
 
