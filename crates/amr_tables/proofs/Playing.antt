@@ -1,458 +1,251 @@
 -- A tournament of numbers by their moments: who wins it, and what a new moment changes.
-use Rattle.std.proofs.Common.{◌≡◌, ◌≢◌, inl, inr, ℕ, suc, zero, ◌+◌, ◌-◌, ◌*◌, ◌/◌, ◌%◌, ◌<◌, ◌≤◌, Bool, true, false, nat_lt, Option, Some, None, length, get_or, slice_set, refl, sym, ap, subst, ◌∙◌, arith}
-use Rattle.std.specs.Prelude.{if◌then◌else◌, ◌⊎◌}
-use Rattle.std.proofs.lemmas.Bool.{cases_lt, cases_eq}
+use Rattle.std.proofs.Common.{◌≡◌, ◌≢◌, inl, inr, ℕ, suc, zero, ◌+◌, ◌-◌, ◌*◌, ◌/◌, ◌<◌, ◌≤◌, Bool, true, false, nat_lt, List, Option, Some, None, length, get_or, slice_set, refl, sym, ap, subst, ◌∙◌, arith}
+use Rattle.std.specs.Prelude.{◌==◌, if◌then◌else◌, ◌⊎◌, option_map}
+use Rattle.std.specs.Option.{option_cmp}
+use Rattle.std.proofs.lemmas.Bool.{cases_eq}
 use Rattle.std.proofs.lemmas.Bool.Decides.{nat_tests}
 use Rattle.std.proofs.lemmas.List.{get_or-set_same, get_or-set_other}
-use Rattle.std.proofs.Math.Nat.{div-add-mod, mod-lt}
+use Rattle.std.proofs.Math.Arith.{bin_ind}
 use Rattle.std.specs.declared.cmp.Ordering.{Ordering}
-use Rattle.std.specs.declared.cmp.Ordering.TheVariants.{Less, Equal, Greater}
-use Rattle.std.specs.Ordering.{nat_cmp, ordering_then, ordering_reverse, is_lt, is_gt}
+use Rattle.std.specs.declared.cmp.Ordering.TheVariants.{Greater}
+use Rattle.std.specs.Ordering.{nat_cmp, ordering_then, is_lt, is_gt}
 use Rattle.std.specs.Cmp.{IsTotalOrder, nat_cmp_total}
-use Rattle.std.proofs.lemmas.Cmp.{on_total, then_total}
-use Rattle.std.proofs.lemmas.Map.Lookups.{exact_unsigned}
-use Rattle.std.proofs.lemmas.Option.{none-some}
+use Rattle.std.specs.Cmp.Lexicographic.{options_total}
+use Rattle.std.proofs.lemmas.Cmp.{on_total, then_total, back_total, tied_itself, upto}
 use Rattle.amr_tables.specs.Places.{value_at}
 use Rattle.amr_tables.specs.Tournament.{Tournament, moment_at, timer_at, winner_at, timer_cmp, later_winner, IsTournament, AgreeOn}
-use Rattle.amr_tables.proofs.Placing.{value_apart, value_past}
+use Rattle.amr_tables.proofs.Placing.{value_apart, value_within}
 
 -- ---- the order of timers
 
-module _ {rank : ℕ → ℕ → Ordering} (order : IsTotalOrder rank) where
-  pairs_total : IsTotalOrder (λ (x y : ℕ × ℕ). ordering_then (nat_cmp x.0 y.0) (rank x.1 y.1))
-  pairs_total = then_total (on_total (λ (x : ℕ × ℕ). x.0) nat_cmp_total) (on_total (λ (x : ℕ × ℕ). x.1) order)
+abbrev timed : Option ℕ × ℕ → Option (ℕ × ℕ)
+timed x = option_map (λ m. (m, x.1)) x.0
 
-  timer_antisymm : (x y : Option ℕ × ℕ) → timer_cmp rank x y ≡ ordering_reverse (timer_cmp rank y x)
-  timer_antisymm (Some m, a) (Some n, b) = pairs_total.antisymm (m, a) (n, b)
-  timer_antisymm (Some m, a) (None, b) = refl
-  timer_antisymm (None, a) (Some n, b) = refl
-  timer_antisymm (None, a) (None, b) = refl
-
-  timer_trans : (x y z : Option ℕ × ℕ) → timer_cmp rank x y ≡ Less → timer_cmp rank y z ≡ Less → timer_cmp rank x z ≡ Less
-  timer_trans (Some m, a) (Some n, b) (Some o, c) p q = pairs_total.trans (m, a) (n, b) (o, c) p q
-  timer_trans (Some m, a) y (None, c) p q = refl
-  timer_trans (Some m, a) (None, b) (Some o, c) p q = cc
-  timer_trans (None, a) (Some n, b) z p q = cc
-  timer_trans (None, a) (None, b) z p q = cc
-
-  timer_congr : (x y z : Option ℕ × ℕ) → timer_cmp rank x y ≡ Equal → timer_cmp rank x z ≡ timer_cmp rank y z
-  timer_congr (Some m, a) (Some n, b) (Some o, c) p = pairs_total.congr (m, a) (n, b) (o, c) p
-  timer_congr (Some m, a) (Some n, b) (None, c) p = refl
-  timer_congr (Some m, a) (None, b) z p = cc
-  timer_congr (None, a) (Some n, b) z p = cc
-  timer_congr (None, a) (None, b) (Some o, c) p = refl
-  timer_congr (None, a) (None, b) (None, c) p = refl
-
-  pub timer_total : IsTotalOrder (timer_cmp rank)
-  timer_total = record { antisymm = timer_antisymm; trans = timer_trans; congr = timer_congr }
+-- it is that of options, turned, so that those without a moment come last
+pub timer_total : {rank : ℕ → ℕ → Ordering} → IsTotalOrder rank → IsTotalOrder (timer_cmp rank)
+timer_total {rank} order = subst IsTotalOrder (λ i x y. is x y i) (back_total (on_total timed (options_total (back_total (then_total (on_total (λ (x : ℕ × ℕ). x.0) nat_cmp_total) (on_total (λ (x : ℕ × ℕ). x.1) order))))))
+  where
+    is : (x y : Option ℕ × ℕ) → option_cmp (λ (a b : ℕ × ℕ). ordering_then (nat_cmp b.0 a.0) (rank b.1 a.1)) (timed y) (timed x) ≡ timer_cmp rank x y
+    is (Some m, a) (Some n, b) = refl
+    is (Some m, a) (None, b) = refl
+    is (None, a) (Some n, b) = refl
+    is (None, a) (None, b) = refl
 
 -- ---- who is not after whom
 
 module _ {K : Type 0} {R : K → K → Ordering} (o : IsTotalOrder R) where
-  turned : (w : Ordering) → is_gt (ordering_reverse w) ≡ is_lt w
-  turned Less = refl
-  turned Equal = refl
-  turned Greater = refl
-
-  -- what wins against the first is not after it
-  won : (x y : K) → is_lt (R x y) ≡ true → is_gt (R x y) ≡ false
-  won x y h = from (R x y) h
-    where
-      from : (w : Ordering) → is_lt w ≡ true → is_gt w ≡ false
-      from Less e = refl
-      from Equal e = cc
-      from Greater e = cc
-
-  -- what doesn't lose against the other is not after it
-  kept : (x y : K) → is_lt (R x y) ≡ false → is_gt (R y x) ≡ false
-  kept x y h = ap is_gt (o.antisymm y x) ∙ turned (R x y) ∙ h
-
   pub itself : (x : K) → is_gt (R x x) ≡ false
-  itself x = from (R x x) (o.antisymm x x)
-    where
-      from : (w : Ordering) → w ≡ ordering_reverse w → is_gt w ≡ false
-      from Less e = refl
-      from Equal e = refl
-      from Greater e = cc
+  itself x = ap is_gt (tied_itself o x)
 
   -- what the other is after is not after it
   pub not_after_back : (x y : K) → is_gt (R x y) ≡ true → is_gt (R y x) ≡ false
-  not_after_back x y h = ap is_gt (o.antisymm y x) ∙ from (R x y) h
-    where
-      from : (w : Ordering) → is_gt w ≡ true → is_gt (ordering_reverse w) ≡ false
-      from Less e = cc
-      from Equal e = cc
-      from Greater e = refl
+  not_after_back x y h = grind (arith, o.antisymm y x, h)
 
-  then_not : (x y z : K) (v w : Ordering) → R x y ≡ v → R y z ≡ w → is_gt v ≡ false → is_gt w ≡ false → is_gt (R x z) ≡ false
-  then_not x y z Less Less p q g h = ap is_gt (o.trans x y z p q)
-  then_not x y z Less Equal p q g h = ap is_gt (o.antisymm x z ∙ ap ordering_reverse (sym (o.congr y z x q)) ∙ sym (o.antisymm x y) ∙ p)
-  then_not x y z Equal w p q g h = ap is_gt (o.congr x y z p ∙ q) ∙ h
-  then_not x y z Less Greater p q g h = cc
-  then_not x y z Greater w p q g h = cc
-
-  pub not_after_then : (x y z : K) → is_gt (R x y) ≡ false → is_gt (R y z) ≡ false → is_gt (R x z) ≡ false
-  not_after_then x y z g h = then_not x y z (R x y) (R y z) refl refl g h
+  -- who wins of two is after neither
+  over_both : (l r w : K) → w ≡ (if is_lt (R r l) then r else l) → (is_gt (R w l) ≡ false) × (is_gt (R w r) ≡ false)
+  over_both l r w e = grind (arith, itself l, itself r, o.antisymm l r, e)
 
 -- what is not after another is earlier, or of the same moment and not put after it
 pub not_before : (m x : ℕ) (r : Ordering) → is_gt (ordering_then (nat_cmp m x) r) ≡ false → (m < x) ⊎ ((m ≡ x) × (r ≢ Greater))
-not_before m x r h = from (nat_cmp m x) refl h
-  where
-    no : is_gt Greater ≡ false → ⊥
-    no e = cc
-
-    from : (o : Ordering) → nat_cmp m x ≡ o → is_gt (ordering_then o r) ≡ false → (m < x) ⊎ ((m ≡ x) × (r ≢ Greater))
-    from Less e h = inl (grind (arith, nat_tests))
-    from Equal e h = inr (exact_unsigned m x e, λ g. no (subst (λ o. is_gt o ≡ false) g h))
-    from Greater e h = cc
-
--- ---- nodes above others
-
-parity : (n q r : ℕ) → r < 2 → 2 * q + r ≡ n → (n ≡ q * 2) ⊎ (n ≡ q * 2 + 1)
-parity n q zero h e = inl (omega (arith, e))
-parity n q (suc zero) h e = inr (omega (arith, e))
-parity n q (suc (suc r)) h e = absurd (omega (arith, h))
-
--- a node is one of the two below its half
-pub halves : (n : ℕ) → (n ≡ n / 2 * 2) ⊎ (n ≡ n / 2 * 2 + 1)
-halves n = parity n (n / 2) (n % 2) (mod-lt n (omega arith)) (div-add-mod n 2)
+not_before m x r h = grind (arith, nat_tests, h)
 
 -- ---- who wins
+
+-- what is so of the two nodes below the half of a node is so of the node
+of_half : (P : ℕ → Type 0) (n : ℕ) → P (n / 2 * 2) × P (n / 2 * 2 + 1) → P n
+of_half P n both = by halves
+  where
+    halves : (n / 2 * 2 ≡ n) ⊎ (n / 2 * 2 + 1 ≡ n)
+    halves = grind arith
+
+    by : (n / 2 * 2 ≡ n) ⊎ (n / 2 * 2 + 1 ≡ n) → P n
+    by (inl e) = subst P e both.0
+    by (inr e) = subst P e both.1
 
 own_node : (t : Tournament) (n : ℕ) → winner_at t (length t.moments + n) ≡ n
 own_node t n = grind (arith, nat_tests)
 
-module _ (rank : ℕ → ℕ → Ordering) (t : Tournament) where
+module _ (rank : ℕ → ℕ → Ordering) (t : Tournament) (order : IsTotalOrder rank) (played : IsTournament rank t) where
   abbrev cmp : ℕ → ℕ → Ordering
   cmp a b = timer_cmp rank (timer_at t a) (timer_at t b)
 
-  better : IsTotalOrder rank → (l r w : ℕ) (b : Bool) → is_lt (cmp r l) ≡ b → w ≡ (if b then r else l) → (is_gt (cmp w l) ≡ false) × (is_gt (cmp w r) ≡ false)
-  better order l r w true h e = (subst (λ x. is_gt (cmp x l) ≡ false) (sym e) (won (timer_total order) (timer_at t r) (timer_at t l) h), subst (λ x. is_gt (cmp x r) ≡ false) (sym e) (itself (timer_total order) (timer_at t r)))
-  better order l r w false h e = (subst (λ x. is_gt (cmp x l) ≡ false) (sym e) (itself (timer_total order) (timer_at t l)), subst (λ x. is_gt (cmp x r) ≡ false) (sym e) (kept (timer_total order) (timer_at t r) (timer_at t l) h))
+  total : IsTotalOrder cmp
+  total = on_total (timer_at t) (timer_total order)
 
-  module _ (order : IsTotalOrder rank) (played : IsTournament rank t) where
-    beats : (q : ℕ) → 1 ≤ q → q < length t.moments → (is_gt (cmp (winner_at t q) (winner_at t (q * 2))) ≡ false) × (is_gt (cmp (winner_at t q) (winner_at t (q * 2 + 1))) ≡ false)
-    beats q one inner = better order (winner_at t (q * 2)) (winner_at t (q * 2 + 1)) (winner_at t q) _ refl (played q one inner)
+  -- the winner of the first node is not after that of any other
+  first_of : (p : ℕ) → 1 ≤ p → p < length t.moments + length t.moments → is_gt (cmp (winner_at t 1) (winner_at t p)) ≡ false
+  first_of = bin_ind (λ p. 1 ≤ p → p < length t.moments + length t.moments → is_gt (cmp (winner_at t 1) (winner_at t p)) ≡ false) (λ one. absurd (omega arith)) (λ p half one inner. by p (cases_eq p 1) half inner one)
+    where
+      by : (p : ℕ) → (p ≡ 1) ⊎ (p ≢ 1) → (1 ≤ p / 2 → p / 2 < length t.moments + length t.moments → is_gt (cmp (winner_at t 1) (winner_at t (p / 2))) ≡ false) → p < length t.moments + length t.moments → 1 ≤ p
+          → is_gt (cmp (winner_at t 1) (winner_at t p)) ≡ false
+      by p (inl e) half inner one = rw e (itself total (winner_at t 1))
+      by p (inr other) half inner one =
+          upto total _ _ _ (half (omega arith) (omega arith))
+          (of_half (λ n. is_gt (cmp (winner_at t (p / 2)) (winner_at t n)) ≡ false) p (over_both total _ _ _ (played (p / 2) (omega arith) (omega arith))))
 
-    -- the winner of the first node is not after that of any other
-    first_of : (fuel p : ℕ) → p ≤ fuel → 1 ≤ p → p < length t.moments + length t.moments → is_gt (cmp (winner_at t 1) (winner_at t p)) ≡ false
-    first_of fuel zero within one inner = absurd (omega (arith, one))
-    first_of fuel (suc zero) within one inner = itself (timer_total order) (timer_at t (winner_at t 1))
-    first_of zero (suc (suc k)) within one inner = absurd (omega (arith, within))
-    first_of (suc fuel) (suc (suc k)) within one inner =
-        below (halves (suc (suc k))) (λ less some small. first_of fuel (suc (suc k) / 2) less some small)
-      where
-        q : ℕ
-        q = suc (suc k) / 2
+  first_of_all : (n : ℕ) → n < length t.moments → is_gt (cmp (winner_at t 1) n) ≡ false
+  first_of_all n within = subst (λ x. is_gt (cmp (winner_at t 1) x) ≡ false) (own_node t n) (first_of (length t.moments + n) (omega arith) (omega arith))
 
-        step : (n : ℕ) → is_gt (cmp (winner_at t 1) (winner_at t q)) ≡ false → is_gt (cmp (winner_at t q) (winner_at t n)) ≡ false → suc (suc k) ≡ n → is_gt (cmp (winner_at t 1) (winner_at t (suc (suc k)))) ≡ false
-        step n first beaten e =
-            subst (λ x. is_gt (cmp (winner_at t 1) (winner_at t x)) ≡ false) (sym e)
-            (not_after_then (timer_total order) (timer_at t (winner_at t 1)) (timer_at t (winner_at t q)) (timer_at t (winner_at t n)) first beaten)
+  -- a winner that has a moment is not after any other number
+  pub winner_first : (moment other x : ℕ) → moment_at t (winner_at t 1) ≡ Some moment → moment_at t other ≡ Some x → is_gt (timer_cmp rank (Some moment, winner_at t 1) (Some x, other)) ≡ false
+  winner_first moment other x is at = subst (λ (p : Option ℕ × Option ℕ). is_gt (timer_cmp rank (p.0, winner_at t 1) (p.1, other)) ≡ false) (λ i. (is i, at i)) (first_of_all other (value_within t.moments other x at))
 
-        below : (suc (suc k) ≡ q * 2) ⊎ (suc (suc k) ≡ q * 2 + 1) → (q ≤ fuel → 1 ≤ q → q < length t.moments + length t.moments → is_gt (cmp (winner_at t 1) (winner_at t q)) ≡ false)
-            → is_gt (cmp (winner_at t 1) (winner_at t (suc (suc k)))) ≡ false
-        below (inl e) first =
-            let some : 1 ≤ q = omega (arith, e) in
-            let less : q ≤ fuel = omega (arith, e, within) in
-            let small : q < length t.moments = omega (arith, e, inner) in
-            step (q * 2) (first less some (omega (arith, small))) (beats q some small).0 e
-        below (inr e) first =
-            let some : 1 ≤ q = omega (arith, e) in
-            let less : q ≤ fuel = omega (arith, e, within) in
-            let small : q < length t.moments = omega (arith, e, inner) in
-            step (q * 2 + 1) (first less some (omega (arith, small))) (beats q some small).1 e
-
-    first_of_all : (n : ℕ) → n < length t.moments → is_gt (cmp (winner_at t 1) n) ≡ false
-    first_of_all n within =
-        subst (λ x. is_gt (cmp (winner_at t 1) x) ≡ false) (own_node t n)
-        (first_of (length t.moments + n) (length t.moments + n) (omega arith) (omega (arith, within)) (omega (arith, within)))
-
-    -- a winner that has a moment is not after any other number
-    pub winner_first : (moment other x : ℕ) → moment_at t (winner_at t 1) ≡ Some moment → moment_at t other ≡ Some x → is_gt (timer_cmp rank (Some moment, winner_at t 1) (Some x, other)) ≡ false
-    winner_first moment other x is at = by (cases_lt other (length t.moments))
-      where
-        by : (other < length t.moments) ⊎ (length t.moments ≤ other) → is_gt (timer_cmp rank (Some moment, winner_at t 1) (Some x, other)) ≡ false
-        by (inr late) = absurd (none-some x (sym (value_past t.moments other late) ∙ at))
-        by (inl within) = subst (λ (p : Option ℕ × Option ℕ). is_gt (timer_cmp rank (p.0, winner_at t 1) (p.1, other)) ≡ false) (λ i. (is i, at i)) (first_of_all other within)
-
-    -- a winner without a moment has beaten none that has one
-    pub none_earlier : moment_at t (winner_at t 1) ≡ None → (n : ℕ) → moment_at t n ≡ None
-    none_earlier none n = of_any (cases_lt n (length t.moments))
-      where
-        from : (m : Option ℕ) → is_gt (timer_cmp rank (None, winner_at t 1) (m, n)) ≡ false → m ≡ None
-        from None h = refl
-        from (Some m) h = cc
-
-        of_any : (n < length t.moments) ⊎ (length t.moments ≤ n) → moment_at t n ≡ None
-        of_any (inr late) = value_past t.moments n late
-        of_any (inl within) = from (moment_at t n) (subst (λ x. is_gt (timer_cmp rank (x, winner_at t 1) (timer_at t n)) ≡ false) none (first_of_all n within))
+  -- a winner without a moment has beaten none that has one
+  pub none_earlier : moment_at t (winner_at t 1) ≡ None → (n : ℕ) → moment_at t n ≡ None
+  none_earlier none n = by (moment_at t n) refl
+    where
+      by : (m : Option ℕ) → moment_at t n ≡ m → m ≡ None
+      by None at = refl
+      by (Some m) at = absurd (after (subst (λ (p : Option ℕ × Option ℕ). is_gt (timer_cmp rank (p.0, winner_at t 1) (p.1, n)) ≡ false) (λ i. (none i, at i)) (first_of_all n (value_within t.moments n m at))))
+        where
+          after : true ≡ false → ⊥
+          after e = cc
 
 -- ---- what a new winner changes
 
-winner_apart : (t : Tournament) (node w other : ℕ) → other ≢ node → winner_at (record t { winners = slice_set t.winners node w }) other ≡ winner_at t other
-winner_apart t node w other apart =
-    ap (λ x. if nat_lt other (length t.moments) then x else other - length t.moments) (get_or-set_other t.winners node other w 0 apart)
+-- a node that was played has its winner, and the others keep theirs
+noted : (t : Tournament) (node w j : ℕ) → node < length t.moments → length t.winners ≡ length t.moments → winner_at (record t { winners = slice_set t.winners node w }) j ≡ (if j == node then w else winner_at t j)
+noted t node w j inner nodes = grind (arith, nat_tests, get_or-set_same t.winners node w 0, get_or-set_other t.winners node j w 0, inner, nodes)
 
-winner_new : (t : Tournament) (node w : ℕ) → node < length t.moments → length t.winners ≡ length t.moments → winner_at (record t { winners = slice_set t.winners node w }) node ≡ w
-winner_new t node w inner nodes =
-    ap (λ b. if b then get_or (slice_set t.winners node w) node 0 else node - length t.moments) (inner_is node (length t.moments) inner)
-    ∙ get_or-set_same t.winners node w 0 (omega (arith, inner, nodes))
+-- who wins of two numbers
+abbrev better : (ℕ → ℕ → Ordering) → List (Option ℕ) → ℕ → ℕ → ℕ
+better rank moments l r = if is_lt (timer_cmp rank (value_at moments r, r) (value_at moments l, l)) then r else l
+
+-- only who wins the nodes below a node and their moments matter
+later_alike : (rank : ℕ → ℕ → Ordering) {moments : List (Option ℕ)} (u : Tournament) → u.moments ≡ moments → (j : ℕ) → later_winner rank u j ≡ better rank moments (winner_at u (j * 2)) (winner_at u (j * 2 + 1))
+later_alike rank u are j = ap (λ ms. better rank ms (winner_at u (j * 2)) (winner_at u (j * 2 + 1))) are
+
+-- after a match was played that node has its winner, and the others keep theirs
+pub now : (rank : ℕ → ℕ → Ordering) {moments : List (Option ℕ)} (u v : Tournament) (node k : ℕ) → u.moments ≡ moments → v ≡ record u { winners = slice_set u.winners node (later_winner rank u node) } → node < length u.moments → length u.winners ≡ length u.moments
+    → winner_at v k ≡ (if k == node then better rank moments (winner_at u (node * 2)) (winner_at u (node * 2 + 1)) else winner_at u k)
+now rank u v node k are is inner nodes =
+    ap (λ (x : Tournament). winner_at x k) is ∙ noted u node (later_winner rank u node) k inner nodes
+    ∙ ap (λ w. if k == node then w else winner_at u k) (later_alike rank u are node)
+
+-- after the last nodes a node was played
+pub played_from : (rank : ℕ → ℕ → Ordering) (t u : Tournament) (node : ℕ) → u ≡ record t { winners = slice_set t.winners node (later_winner rank t node) } → 1 ≤ node → node < length t.moments → length t.winners ≡ length t.moments
+    → ((j : ℕ) → 1 ≤ j → node < j → j < length t.moments → winner_at t j ≡ later_winner rank t j)
+    → (j : ℕ) → 1 ≤ j → node ≤ j → j < length u.moments → winner_at u j ≡ later_winner rank u j
+played_from rank t u node is one inner nodes played j some from within =
+    by (winner_at t) (winner_at u) (better rank t.moments) (λ k. now rank t u node k refl is inner nodes) (played j some) (omega (arith, ap length moments))
+    ∙ sym (later_alike rank u moments j)
   where
-    inner_is : (a b : ℕ) → a < b → nat_lt a b ≡ true
-    inner_is a b h = grind (arith, nat_tests)
+    moments : u.moments ≡ t.moments
+    moments = ap (λ (x : Tournament). x.moments) is
 
-module _ (rank : ℕ → ℕ → Ordering) where
-  later_alike : (t u : Tournament) (node : ℕ) → u.moments ≡ t.moments → winner_at u (node * 2) ≡ winner_at t (node * 2) → winner_at u (node * 2 + 1) ≡ winner_at t (node * 2 + 1) → later_winner rank u node ≡ later_winner rank t node
-  later_alike t u node moments left right =
-      λ i. if is_lt (timer_cmp rank (value_at (moments i) (right i), right i) (value_at (moments i) (left i), left i)) then right i else left i
-
-  -- a node was played: it has its winner, and the others whose winners it isn't below keep theirs
-  pub played_here : (t : Tournament) (node : ℕ) → 1 ≤ node → node < length t.moments → length t.winners ≡ length t.moments
-      → winner_at (record t { winners = slice_set t.winners node (later_winner rank t node) }) node ≡ later_winner rank (record t { winners = slice_set t.winners node (later_winner rank t node) }) node
-  played_here t node one inner nodes =
-      winner_new t node (later_winner rank t node) inner nodes
-      ∙ sym (later_alike t _ node refl (winner_apart t node _ (node * 2) (λ e. absurd (omega (arith, e, one)))) (winner_apart t node _ (node * 2 + 1) (λ e. absurd (omega (arith, e, one)))))
-
-  pub played_there : (t : Tournament) (node w j : ℕ) → j ≢ node → j * 2 ≢ node → j * 2 + 1 ≢ node → winner_at t j ≡ later_winner rank t j
-      → winner_at (record t { winners = slice_set t.winners node w }) j ≡ later_winner rank (record t { winners = slice_set t.winners node w }) j
-  played_there t node w j apart left right played =
-      winner_apart t node w j apart ∙ played
-      ∙ sym (later_alike t _ j refl (winner_apart t node w (j * 2) left) (winner_apart t node w (j * 2 + 1) right))
+    by : (W V : ℕ → ℕ) (pick : ℕ → ℕ → ℕ) → ((k : ℕ) → V k ≡ (if k == node then pick (W (node * 2)) (W (node * 2 + 1)) else W k)) → (node < j → j < length t.moments → W j ≡ pick (W (j * 2)) (W (j * 2 + 1))) → j < length t.moments
+        → V j ≡ pick (V (j * 2)) (V (j * 2 + 1))
+    by W V pick now played inner = grind (arith, nat_tests, now j, now (j * 2), now (j * 2 + 1), played, inner)
 
 -- ---- what a new moment changes
 
--- The tables t, after a number got a new moment, and u, after matches were played from the number's
--- own node up to this one.
-pub record IsClimbed (rank : ℕ → ℕ → Ordering) (n : ℕ) (t u : Tournament) (node : ℕ) : Type 0 where
-  pub either : (j : ℕ) → 1 ≤ j → j < length t.moments → (winner_at t (j * 2) ≡ winner_at t j) ⊎ (winner_at t (j * 2 + 1) ≡ winner_at t j)
+-- The winners W of the nodes below N, after the number n got a new moment, and V, after matches were
+-- played from the number's own node up to this one.
+pub record Climbed (W V : ℕ → ℕ) (pick : ℕ → ℕ → ℕ) (n N node : ℕ) : Type 0 where
+  pub either : (j : ℕ) → 1 ≤ j → j < N → (W (j * 2) ≡ W j) ⊎ (W (j * 2 + 1) ≡ W j)
   -- matches of other numbers stand
-  pub stand : (j : ℕ) → 1 ≤ j → j < length t.moments → winner_at t (j * 2) ≢ n → winner_at t (j * 2 + 1) ≢ n → winner_at t j ≡ later_winner rank t j
+  pub stand : (j : ℕ) → 1 ≤ j → j < N → W (j * 2) ≢ n → W (j * 2 + 1) ≢ n → W j ≡ pick (W (j * 2)) (W (j * 2 + 1))
   -- the number won no node above this one if not this one, and none beside it
-  pub won : (j : ℕ) → 1 ≤ j → j < node * 2 → winner_at t j ≡ n → (winner_at t node ≡ n) × ((j ≡ node) ⊎ (j * 2 ≤ node))
-  pub same : (j : ℕ) → j < node * 2 → j ≢ node → winner_at u j ≡ winner_at t j
-  pub played : (j : ℕ) → 1 ≤ j → j < length t.moments → node < j * 2 → winner_at u j ≡ later_winner rank u j
+  pub won : (j : ℕ) → 1 ≤ j → j < node * 2 → W j ≡ n → (W node ≡ n) × ((j ≡ node) ⊎ (j * 2 ≤ node))
+  pub same : (j : ℕ) → j < node * 2 → j ≢ node → V j ≡ W j
+  pub played : (j : ℕ) → 1 ≤ j → j < N → node < j * 2 → V j ≡ pick (V (j * 2)) (V (j * 2 + 1))
 
-module _ (rank : ℕ → ℕ → Ordering) (t : Tournament) (played : IsTournament rank t) where
-  at_own_node : (p n : ℕ) → length t.moments ≤ p → winner_at t p ≡ n → p ≡ length t.moments + n
-  at_own_node p n past wins = grind (arith, nat_tests)
+abbrev pub IsClimbed : (ℕ → ℕ → Ordering) → ℕ → Tournament → Tournament → ℕ → Type 0
+IsClimbed rank n t u node = Climbed (winner_at t) (winner_at u) (better rank t.moments) n (length t.moments) node
 
-  one_of : (l r w : ℕ) (b : Bool) → w ≡ (if b then r else l) → (l ≡ w) ⊎ (r ≡ w)
-  one_of l r w true e = inr (sym e)
-  one_of l r w false e = inl (sym e)
+-- the winners W of a tournament of N numbers
+module _ {W : ℕ → ℕ} {N : ℕ} (pick : ℕ → ℕ → ℕ) (picked : (l r : ℕ) → (pick l r ≡ l) ⊎ (pick l r ≡ r)) (own : (p : ℕ) → N ≤ p → W p ≡ p - N) (played : (j : ℕ) → 1 ≤ j → j < N → W j ≡ pick (W (j * 2)) (W (j * 2 + 1))) where
+  abbrev Above : ℕ → ℕ → Type 0
+  Above p n = (p ≡ N + n) ⊎ (p * 2 ≤ N + n)
+
+  up : (p n : ℕ) → 1 ≤ p → W p ≡ n → (W (p * 2) ≡ n → Above (p * 2) n) → (W (p * 2 + 1) ≡ n → Above (p * 2 + 1) n) → Above p n
+  up p n one wins left right = grind (arith, own p, played p one, picked (W (p * 2)) (W (p * 2 + 1)))
 
   -- a number wins its own node, and no other node after the half of it
-  wins_before : (fuel p n : ℕ) → length t.moments ≤ p + fuel → 1 ≤ p → winner_at t p ≡ n → (p ≡ length t.moments + n) ⊎ (p * 2 ≤ length t.moments + n)
-  wins_before zero p n within one wins = inl (at_own_node p n (omega (arith, within)) wins)
+  wins_before : (fuel p n : ℕ) → N ≤ p + fuel → 1 ≤ p → W p ≡ n → Above p n
+  wins_before zero p n within one wins = inl (omega (arith, own p (omega arith)))
   wins_before (suc fuel) p n within one wins =
-      by_node (cases_lt p (length t.moments))
-      (λ is. wins_before fuel (p * 2) n (omega (arith, within, one)) (omega (arith, one)) is)
-      (λ is. wins_before fuel (p * 2 + 1) n (omega (arith, within, one)) (omega (arith, one)) is)
-    where
-      raised : (c : ℕ) → p * 2 ≤ c → (c ≡ length t.moments + n) ⊎ (c * 2 ≤ length t.moments + n) → (p ≡ length t.moments + n) ⊎ (p * 2 ≤ length t.moments + n)
-      raised c less (inl is) = inr (omega (arith, less, is))
-      raised c less (inr is) = inr (omega (arith, less, is))
+      up p n one wins (wins_before fuel (p * 2) n (omega arith) (omega arith)) (wins_before fuel (p * 2 + 1) n (omega arith) (omega arith))
 
-      by_node : (p < length t.moments) ⊎ (length t.moments ≤ p)
-          → (winner_at t (p * 2) ≡ n → (p * 2 ≡ length t.moments + n) ⊎ (p * 2 * 2 ≤ length t.moments + n))
-          → (winner_at t (p * 2 + 1) ≡ n → (p * 2 + 1 ≡ length t.moments + n) ⊎ ((p * 2 + 1) * 2 ≤ length t.moments + n))
-          → (p ≡ length t.moments + n) ⊎ (p * 2 ≤ length t.moments + n)
-      by_node (inr past) left right = inl (at_own_node p n past wins)
-      by_node (inl inner) left right = by_side (one_of (winner_at t (p * 2)) (winner_at t (p * 2 + 1)) (winner_at t p) _ (played p one inner))
-        where
-          by_side : (winner_at t (p * 2) ≡ winner_at t p) ⊎ (winner_at t (p * 2 + 1) ≡ winner_at t p) → (p ≡ length t.moments + n) ⊎ (p * 2 ≤ length t.moments + n)
-          by_side (inl is) = raised (p * 2) (omega arith) (left (is ∙ wins))
-          by_side (inr is) = raised (p * 2 + 1) (omega arith) (right (is ∙ wins))
+  not_won : (c n : ℕ) → 1 ≤ c → N + n < c → W c ≢ n
+  not_won c n one late wins = let above = wins_before N c n (omega arith) one wins in absurd (omega (arith, above))
 
-  module _ (n : ℕ) (moment : Option ℕ) (len : length (slice_set t.moments n moment) ≡ length t.moments) where
-    abbrev changed : Tournament
-    changed = record t { moments = slice_set t.moments n moment }
+  -- no match has been played yet
+  from_own : (n : ℕ) (again : ℕ → ℕ → ℕ) → ((l r : ℕ) → l ≢ n → r ≢ n → pick l r ≡ again l r) → Climbed W W again n N (N + n)
+  from_own n again alike = record {
+    either = λ j one inner. grind (arith, played j one inner, picked (W (j * 2)) (W (j * 2 + 1)));
+    stand = λ j one inner left right. played j one inner ∙ alike _ _ left right;
+    won = λ j one less wins. (own (N + n) (omega arith) ∙ omega arith, wins_before N j n (omega arith) one wins);
+    same = λ j less apart. refl;
+    played = λ j one inner late. played j one inner ∙ alike _ _ (not_won (j * 2) n (omega arith) late) (not_won (j * 2 + 1) n (omega arith) (omega arith));
+  }
 
-    as_before : (p : ℕ) → winner_at changed p ≡ winner_at t p
-    as_before p = ap (λ l. if nat_lt p l then get_or t.winners p 0 else p - l) len
+pub begun : (rank : ℕ → ℕ → Ordering) (t : Tournament) (n : ℕ) (moment : Option ℕ) → length (slice_set t.moments n moment) ≡ length t.moments → IsTournament rank t
+    → IsClimbed rank n (record t { moments = slice_set t.moments n moment }) (record t { moments = slice_set t.moments n moment }) (length (slice_set t.moments n moment) + n)
+begun rank t n moment len played = from_own (better rank t.moments) picked own
+    (subst (λ N. (j : ℕ) → 1 ≤ j → j < N → wins N j ≡ better rank t.moments (wins N (j * 2)) (wins N (j * 2 + 1))) (sym len) played) n _ (λ l r left right i.
+    if is_lt (timer_cmp rank (sym (value_apart t.moments n r moment right) i, r) (sym (value_apart t.moments n l moment left) i, l)) then r else l)
+  where
+    wins : ℕ → ℕ → ℕ
+    wins N p = if nat_lt p N then get_or t.winners p 0 else p - N
 
-    alike : (p : ℕ) → winner_at changed p ≢ n → timer_at changed (winner_at changed p) ≡ timer_at t (winner_at t p)
-    alike p apart =
-        ap (timer_at changed) (as_before p)
-        ∙ (λ i. (value_apart t.moments n (winner_at t p) moment (λ e. apart (as_before p ∙ e)) i, winner_at t p))
+    own : (p : ℕ) → length (slice_set t.moments n moment) ≤ p → wins (length (slice_set t.moments n moment)) p ≡ p - length (slice_set t.moments n moment)
+    own p past = grind (arith, nat_tests, past)
 
-    stands : (j : ℕ) → 1 ≤ j → j < length t.moments → winner_at changed (j * 2) ≢ n → winner_at changed (j * 2 + 1) ≢ n → winner_at changed j ≡ later_winner rank changed j
-    stands j one inner left right =
-        as_before j ∙ played j one inner
-        ∙ (λ i. if is_lt (timer_cmp rank (sym (alike (j * 2 + 1) right) i) (sym (alike (j * 2) left) i)) then sym (as_before (j * 2 + 1)) i else sym (as_before (j * 2)) i)
-
-    won_before : (j : ℕ) → 1 ≤ j → winner_at changed j ≡ n → (j ≡ length t.moments + n) ⊎ (j * 2 ≤ length t.moments + n)
-    won_before j one wins = wins_before (length t.moments) j n (omega arith) one (sym (as_before j) ∙ wins)
-
-    not_won : (c : ℕ) → 1 ≤ c → length t.moments + n < c → winner_at changed c ≢ n
-    not_won c one late wins = from (won_before c one wins)
+    picked : (l r : ℕ) → (better rank t.moments l r ≡ l) ⊎ (better rank t.moments l r ≡ r)
+    picked l r = by (is_lt _)
       where
-        from : (c ≡ length t.moments + n) ⊎ (c * 2 ≤ length t.moments + n) → ⊥
-        from (inl is) = absurd (omega (arith, is, late))
-        from (inr is) = absurd (omega (arith, is, late))
+        by : (b : Bool) → ((if b then r else l) ≡ l) ⊎ ((if b then r else l) ≡ r)
+        by true = inr refl
+        by false = inl refl
 
-    -- no match has been played yet
-    pub begun : IsClimbed rank n changed changed (length t.moments + n)
-    begun = record {
-      either = λ j one inner. sides j (one_of (winner_at t (j * 2)) (winner_at t (j * 2 + 1)) (winner_at t j) _ (played j one (subst (λ l. j < l) len inner)));
-      stand = λ j one inner left right. stands j one (subst (λ l. j < l) len inner) left right;
-      won = λ j one less wins. (as_before (length t.moments + n) ∙ own_node t n, won_before j one wins);
-      same = λ j less apart. refl;
-      played = λ j one inner late. stands j one (subst (λ l. j < l) len inner) (not_won (j * 2) (omega (arith, one)) late) (not_won (j * 2 + 1) (omega (arith, one)) (omega (arith, late)));
+module _ {W V : ℕ → ℕ} {pick : ℕ → ℕ → ℕ} {n N node : ℕ} (c : Climbed W V pick n N node) where
+  -- another number wins this node as before, so all matches above stand
+  stopped : V node ≡ W node → V node ≢ n → (j : ℕ) → 1 ≤ j → j < N → V j ≡ pick (V (j * 2)) (V (j * 2 + 1))
+  stopped as_was apart j one inner = grind (arith, c.same j, c.same (j * 2), c.same (j * 2 + 1), c.won (j * 2), c.won (j * 2 + 1), c.stand j one inner, c.played j one inner)
+
+  module _ (one : 1 ≤ node / 2) (inner : node / 2 < N) where
+    -- a node before this one that the number won is at most the half of this one
+    at_half : (j : ℕ) → 1 ≤ j → j < node / 2 * 2 → W j ≡ n → j ≤ node / 2
+    at_half j some less wins = omega (arith, (c.won j some (omega arith) wins).1)
+
+    step : (j : ℕ) → 1 ≤ j → j < node / 2 * 2 → W j ≡ n → (j < node / 2 → W (j * 2) ≡ n → W (node / 2) ≡ n) → (j < node / 2 → W (j * 2 + 1) ≡ n → W (node / 2) ≡ n) → (W (node / 2) ≡ n) × ((j ≡ node / 2) ⊎ (j * 2 ≤ node / 2))
+    step j some less wins left right = grind (arith, at_half j, at_half (j * 2), at_half (j * 2 + 1), c.either j)
+
+    won_half : (fuel j : ℕ) → node / 2 ≤ j + fuel → 1 ≤ j → j < node / 2 * 2 → W j ≡ n → (W (node / 2) ≡ n) × ((j ≡ node / 2) ⊎ (j * 2 ≤ node / 2))
+    won_half zero j within some less wins = step j some less wins (λ small. absurd (omega arith)) (λ small. absurd (omega arith))
+    won_half (suc fuel) j within some less wins =
+        step j some less wins (λ small is. (won_half fuel (j * 2) (omega arith) (omega arith) (omega arith) is).0)
+        (λ small is. (won_half fuel (j * 2 + 1) (omega arith) (omega arith) (omega arith) is).0)
+
+    pub half_as_was : V (node / 2) ≡ W (node / 2)
+    half_as_was = c.same (node / 2) (omega arith) (λ e. absurd (omega arith))
+
+    -- the node above was played
+    pub climbs : {U : ℕ → ℕ} → ((k : ℕ) → U k ≡ (if k == node / 2 then pick (V (node / 2 * 2)) (V (node / 2 * 2 + 1)) else V k)) → Climbed W U pick n N (node / 2)
+    climbs {U} now = record {
+      either = c.either;
+      stand = c.stand;
+      won = λ j some less wins. won_half (node / 2) j (omega arith) some less wins;
+      same = λ j less apart. grind (arith, nat_tests, now j, c.same j);
+      played = λ j some within late. grind (arith, nat_tests, now j, now (j * 2), now (j * 2 + 1), c.same j, c.same (j * 2), c.same (j * 2 + 1), c.played j, c.stand j, at_half (j * 2), at_half (j * 2 + 1));
     }
-      where
-        sides : (j : ℕ) → (winner_at t (j * 2) ≡ winner_at t j) ⊎ (winner_at t (j * 2 + 1) ≡ winner_at t j) → (winner_at changed (j * 2) ≡ winner_at changed j) ⊎ (winner_at changed (j * 2 + 1) ≡ winner_at changed j)
-        sides j (inl is) = inl (as_before (j * 2) ∙ is ∙ sym (as_before j))
-        sides j (inr is) = inr (as_before (j * 2 + 1) ∙ is ∙ sym (as_before j))
 
-module _ (rank : ℕ → ℕ → Ordering) (t u : Tournament) (node : ℕ) (is : u ≡ record t { winners = slice_set t.winners node (later_winner rank t node) })
-    (one : 1 ≤ node) (inner : node < length t.moments) (nodes : length t.winners ≡ length t.moments) where
-  len_is : length u.moments ≡ length t.moments
-  len_is = ap (λ (x : Tournament). length x.moments) is
-
-  moved : (j : ℕ) → winner_at (record t { winners = slice_set t.winners node (later_winner rank t node) }) j ≡ later_winner rank (record t { winners = slice_set t.winners node (later_winner rank t node) }) j
-      → winner_at u j ≡ later_winner rank u j
-  moved j = subst (λ (x : Tournament). winner_at x j ≡ later_winner rank x j) (sym is)
-
-  -- after the last nodes a node was played
-  pub played_from : ((j : ℕ) → 1 ≤ j → node < j → j < length t.moments → winner_at t j ≡ later_winner rank t j)
-      → (j : ℕ) → 1 ≤ j → node ≤ j → j < length u.moments → winner_at u j ≡ later_winner rank u j
-  played_from played j some from within = moved j (by (cases_eq j node))
-    where
-      by : (j ≡ node) ⊎ (j ≢ node) → winner_at (record t { winners = slice_set t.winners node (later_winner rank t node) }) j ≡ later_winner rank (record t { winners = slice_set t.winners node (later_winner rank t node) }) j
-      by (inl e) = subst (λ x. winner_at (record t { winners = slice_set t.winners node (later_winner rank t node) }) x ≡ later_winner rank (record t { winners = slice_set t.winners node (later_winner rank t node) }) x) (sym e) (played_here rank t node one inner nodes)
-      by (inr apart) =
-          let after : node < j = grind (arith, from, apart) in
-          played_there rank t node (later_winner rank t node) j apart (λ e. absurd (omega (arith, after, e))) (λ e. absurd (omega (arith, after, e))) (played j some after (omega (arith, within, len_is)))
-
-module _ (rank : ℕ → ℕ → Ordering) (n : ℕ) (t u : Tournament) (node : ℕ) (climbed : IsClimbed rank n t u node) (moments : u.moments ≡ t.moments) where
-  -- a match of other numbers stands where the winners are as before
-  left : (v : Tournament) → v.moments ≡ t.moments → (j : ℕ) → 1 ≤ j → j < length t.moments → winner_at v j ≡ winner_at t j → winner_at v (j * 2) ≡ winner_at t (j * 2) → winner_at v (j * 2 + 1) ≡ winner_at t (j * 2 + 1)
-      → winner_at t (j * 2) ≢ n → winner_at t (j * 2 + 1) ≢ n → winner_at v j ≡ later_winner rank v j
-  left v alike j one inner here l r not_l not_r = here ∙ climbed.stand j one inner not_l not_r ∙ sym (later_alike rank t v j alike l r)
+module _ (rank : ℕ → ℕ → Ordering) {n : ℕ} (t u : Tournament) {node : ℕ} (c : IsClimbed rank n t u node) (moments : u.moments ≡ t.moments) where
+  all_played : ((j : ℕ) → 1 ≤ j → j < length t.moments → winner_at u j ≡ better rank t.moments (winner_at u (j * 2)) (winner_at u (j * 2 + 1))) → IsTournament rank u
+  all_played = subst (λ ms. (j : ℕ) → 1 ≤ j → j < length ms → winner_at u j ≡ better rank ms (winner_at u (j * 2)) (winner_at u (j * 2 + 1))) (sym moments)
 
   -- the first node has been played
   pub ended : node ≤ 1 → IsTournament rank u
-  ended first j one inner = climbed.played j one (subst (λ ms. j < length ms) moments inner) (omega (arith, first, one))
+  ended first = all_played (λ j one inner. c.played j one inner (omega arith))
 
   -- another number wins this node as before, so all matches above stand
-  pub stopped : winner_at u node ≡ winner_at t node → winner_at u node ≢ n → IsTournament rank u
-  stopped as_was apart j one inner = by (cases_lt node (j * 2))
-    where
-      within : j < length t.moments
-      within = subst (λ ms. j < length ms) moments inner
-
-      kept : (c : ℕ) → c < node * 2 → winner_at u c ≡ winner_at t c
-      kept c less = from (cases_eq c node)
-        where
-          from : (c ≡ node) ⊎ (c ≢ node) → winner_at u c ≡ winner_at t c
-          from (inl is) = subst (λ x. winner_at u x ≡ winner_at t x) (sym is) as_was
-          from (inr other) = climbed.same c less other
-
-      other : (c : ℕ) → 1 ≤ c → c < node * 2 → winner_at t c ≢ n
-      other c some less wins = apart (as_was ∙ (climbed.won c some less wins).0)
-
-      by : (node < j * 2) ⊎ (j * 2 ≤ node) → winner_at u j ≡ later_winner rank u j
-      by (inl late) = climbed.played j one within late
-      by (inr above) =
-          left u moments j one within (kept j (omega (arith, above, one))) (kept (j * 2) (omega (arith, above, one))) (kept (j * 2 + 1) (omega (arith, above, one)))
-          (other (j * 2) (omega (arith, one)) (omega (arith, above, one))) (other (j * 2 + 1) (omega arith) (omega (arith, above, one)))
-
-  module _ (one : 1 ≤ node / 2) (inner : node / 2 < length t.moments) (nodes : length u.winners ≡ length u.moments) where
-    low : node / 2 * 2 ≤ node
-    low = from (halves node)
-      where
-        from : (node ≡ node / 2 * 2) ⊎ (node ≡ node / 2 * 2 + 1) → node / 2 * 2 ≤ node
-        from (inl e) = omega (arith, e)
-        from (inr e) = omega (arith, e)
-
-    high : node ≤ node / 2 * 2 + 1
-    high = from (halves node)
-      where
-        from : (node ≡ node / 2 * 2) ⊎ (node ≡ node / 2 * 2 + 1) → node ≤ node / 2 * 2 + 1
-        from (inl e) = omega (arith, e)
-        from (inr e) = omega (arith, e)
-
-    -- a node before this one that the number won is at most the half of this one
-    at_half : (j : ℕ) → 1 ≤ j → j < node / 2 * 2 → winner_at t j ≡ n → j ≤ node / 2
-    at_half j some less wins = from (climbed.won j some (omega (arith, less, low)) wins).1
-      where
-        from : (j ≡ node) ⊎ (j * 2 ≤ node) → j ≤ node / 2
-        from (inl is) = absurd (omega (arith, is, less, low))
-        from (inr is) = omega (arith, is, high)
-
-    here : (j : ℕ) → j ≡ node / 2 → winner_at t j ≡ n → (winner_at t (node / 2) ≡ n) × ((j ≡ node / 2) ⊎ (j * 2 ≤ node / 2))
-    here j is wins = (subst (λ x. winner_at t x ≡ n) is wins, inl is)
-
-    won_half : (fuel j : ℕ) → node / 2 ≤ j + fuel → 1 ≤ j → j < node / 2 * 2 → winner_at t j ≡ n → (winner_at t (node / 2) ≡ n) × ((j ≡ node / 2) ⊎ (j * 2 ≤ node / 2))
-    won_half zero j within some less wins =
-        let most = at_half j some less wins in
-        here j (omega (arith, within, most)) wins
-    won_half (suc fuel) j within some less wins =
-        by (cases_eq j (node / 2))
-        (λ small is. (won_half fuel (j * 2) (omega (arith, within, some)) (omega (arith, some)) (omega (arith, small)) is).0)
-        (λ small is. (won_half fuel (j * 2 + 1) (omega (arith, within, some)) (omega arith) (omega (arith, small)) is).0)
-      where
-        by : (j ≡ node / 2) ⊎ (j ≢ node / 2) → (j < node / 2 → winner_at t (j * 2) ≡ n → winner_at t (node / 2) ≡ n) → (j < node / 2 → winner_at t (j * 2 + 1) ≡ n → winner_at t (node / 2) ≡ n)
-            → (winner_at t (node / 2) ≡ n) × ((j ≡ node / 2) ⊎ (j * 2 ≤ node / 2))
-        by (inl is) l r = here j is wins
-        by (inr apart) l r = from (climbed.either j some (omega (arith, before, inner)))
-          where
-            before : j < node / 2
-            before =
-                let most = at_half j some less wins in
-                grind (arith, most, apart)
-
-            from : (winner_at t (j * 2) ≡ winner_at t j) ⊎ (winner_at t (j * 2 + 1) ≡ winner_at t j) → (winner_at t (node / 2) ≡ n) × ((j ≡ node / 2) ⊎ (j * 2 ≤ node / 2))
-            from (inl is) = (l before (is ∙ wins), inr (at_half (j * 2) (omega (arith, some)) (omega (arith, before)) (is ∙ wins)))
-            from (inr is) =
-                let half = at_half (j * 2 + 1) (omega arith) (omega (arith, before)) (is ∙ wins) in
-                (r before (is ∙ wins), inr (omega (arith, half)))
-
-    pub half_as_was : winner_at u (node / 2) ≡ winner_at t (node / 2)
-    half_as_was = climbed.same (node / 2) (omega (arith, low, one)) (λ e. absurd (omega (arith, e, low, one)))
-
-    abbrev half_played : Tournament
-    half_played = record u { winners = slice_set u.winners (node / 2) (later_winner rank u (node / 2)) }
-
-    same_half : (j : ℕ) → j < node / 2 * 2 → j ≢ node / 2 → winner_at half_played j ≡ winner_at t j
-    same_half j less apart =
-        winner_apart u (node / 2) (later_winner rank u (node / 2)) j apart
-        ∙ climbed.same j (omega (arith, less, low)) (λ e. absurd (omega (arith, e, less, low)))
-
-    played_half : (j : ℕ) → 1 ≤ j → j < length t.moments → node / 2 < j * 2 → winner_at half_played j ≡ later_winner rank half_played j
-    played_half j some within late = by (cases_eq j (node / 2)) (cases_lt node (j * 2))
-      where
-        by : (j ≡ node / 2) ⊎ (j ≢ node / 2) → (node < j * 2) ⊎ (j * 2 ≤ node) → winner_at half_played j ≡ later_winner rank half_played j
-        by (inl e) where_is =
-            subst (λ x. winner_at half_played x ≡ later_winner rank half_played x) (sym e)
-            (played_here rank u (node / 2) one (subst (λ ms. node / 2 < length ms) (sym moments) inner) nodes)
-        by (inr apart) (inl after) =
-            played_there rank u (node / 2) (later_winner rank u (node / 2)) j apart (λ e. absurd (omega (arith, e, late))) (λ e. absurd (omega (arith, e, late))) (climbed.played j some within after)
-        by (inr apart) (inr before) =
-            let less : j < node / 2 = grind (arith, before, high, apart) in
-            left half_played moments j some within (same_half j (omega (arith, less)) apart)
-            (same_half (j * 2) (omega (arith, less)) (λ e. absurd (omega (arith, e, late)))) (same_half (j * 2 + 1) (omega (arith, less)) (λ e. absurd (omega (arith, e, late))))
-            (λ wins. absurd (omega (arith, at_half (j * 2) (omega (arith, some)) (omega (arith, less)) wins, late)))
-            (λ wins. absurd (omega (arith, at_half (j * 2 + 1) (omega arith) (omega (arith, less)) wins, late)))
-
-    -- the node above was played
-    pub climbs : (v : Tournament) → v ≡ half_played → IsClimbed rank n t v (node / 2)
-    climbs v is = subst (λ x. IsClimbed rank n t x (node / 2)) (sym is) (record {
-      either = climbed.either;
-      stand = climbed.stand;
-      won = λ j some less wins. won_half (node / 2) j (omega arith) some less wins;
-      same = same_half;
-      played = played_half;
-    })
+  pub stopped_at : winner_at u node ≡ winner_at t node → winner_at u node ≢ n → IsTournament rank u
+  stopped_at as_was apart = all_played (stopped c as_was apart)
 
 -- the half of a node after the first is a node, and an inner one
 pub half_bounds : (node n : ℕ) → 1 < node → node < n + n → (1 ≤ node / 2) × (node / 2 < n)
-half_bounds node n h within = from (halves node)
-  where
-    from : (node ≡ node / 2 * 2) ⊎ (node ≡ node / 2 * 2 + 1) → (1 ≤ node / 2) × (node / 2 < n)
-    from (inl e) = (omega (arith, h, e), omega (arith, within, e))
-    from (inr e) = (omega (arith, h, e), omega (arith, within, e))
+half_bounds node n h within = omega arith
 
 -- ---- another order of the same numbers
 

@@ -1,8 +1,9 @@
 -- A queue of moments with their numbers: what it loses and gains at its ends.
-use Rattle.std.proofs.Common.{◌≡◌, ◌≢◌, inl, inr, ℕ, ◌<◌, ◌-◌, nat_lt, true, List, [], ◌∷◌, ◌++◌, length, Option, Some, None, is_some, refl, sym, ap, subst, ◌∙◌, suc, arith}
+use Rattle.std.proofs.Common.{◌≡◌, ◌≢◌, inl, inr, ℕ, ◌<◌, ◌-◌, nat_lt, true, List, [], ◌∷◌, ◌++◌, length, Option, Some, None, is_some, refl, sym, ap, subst, ◌∙◌, arith}
 use Rattle.std.specs.Prelude.{◌⊎◌, slice_get, slice_set, slice_index_or, unwrap_or}
 use Rattle.std.specs.List.{last_or}
 use Rattle.std.specs.Option.{option_to_list}
+use Rattle.std.proofs.Math.Logic.{⊎_elim, ⊎_map}
 use Rattle.std.proofs.lemmas.Bool.{true≢false, cases_eq}
 use Rattle.std.proofs.lemmas.Bool.Decides.{nat_tests}
 use Rattle.std.proofs.lemmas.List.{append-nil}
@@ -27,14 +28,9 @@ stands_last [] s = inl refl
 stands_last (y ∷ queue) s = inr (stands_last queue s)
 
 stands_before : (queue : List NumberedMoment) (s x : NumberedMoment) → StandsIn (queue ++ s ∷ []) x → (s ≡ x) ⊎ StandsIn queue x
-stands_before [] s x (inl is) = inl is
-stands_before [] s x (inr h) = absurd h
+stands_before [] s x h = h
 stands_before (y ∷ queue) s x (inl is) = inr (inl is)
-stands_before (y ∷ queue) s x (inr h) = by (stands_before queue s x h)
-  where
-    by : (s ≡ x) ⊎ StandsIn queue x → (s ≡ x) ⊎ StandsIn (y ∷ queue) x
-    by (inl is) = inl is
-    by (inr h) = inr (inr h)
+stands_before (y ∷ queue) s x (inr h) = ⊎_map (λ is. is) (λ h. inr h) (stands_before queue s x h)
 
 last_is : (o : Option NumberedMoment) (queue : List NumberedMoment) (s : NumberedMoment) → last_or o (queue ++ s ∷ []) ≡ Some s
 last_is o [] s = refl
@@ -48,10 +44,7 @@ last_item x d (y ∷ queue) = last_item y d queue
 pub copied_last : (queue : List NumberedMoment) (len : ℕ) (r : Option NumberedMoment) → len ≡ length queue → is_some r ≡ nat_lt 0 (length queue) → ((d : NumberedMoment) → unwrap_or r d ≡ slice_index_or queue (len - 1) d) → r ≡ last_or None queue
 copied_last [] len None e some item = refl
 copied_last [] len (Some s) e some item = absurd (true≢false some)
-copied_last (x ∷ queue) len None e some item = absurd (true≢false (sym (some ∙ some_more (length queue))))
-  where
-    some_more : (n : ℕ) → nat_lt 0 (suc n) ≡ true
-    some_more n = grind (arith, nat_tests)
+copied_last (x ∷ queue) len None e some item = absurd (true≢false (sym (some ∙ grind (arith, nat_tests))))
 copied_last (x ∷ queue) len (Some s) e some item =
     let before : len - 1 ≡ length queue = omega (arith, e) in
     ap (λ y. Some y) (item x) ∙ ap (λ n. Some (slice_index_or (x ∷ queue) n x)) before ∙ last_item x x queue
@@ -77,48 +70,33 @@ module _ (rank : ℕ → ℕ → Ordering) where
   queue_earlier s [] h is = tt
   queue_earlier s (x ∷ queue) h is = (h, is)
 
-module _ (moments : ℕ → Option ℕ) (rest : Tournament) where
+-- ---- an end that isn't current leaves
+
+module _ (moments : ℕ → Option ℕ) (rest : Tournament) (rank : ℕ → ℕ → Ordering) where
   abbrev with_queue : List NumberedMoment → Earliest
   with_queue queue = record { queue = queue; rest = rest }
 
-  -- ---- an end that isn't current leaves
-
-  pub last_leaves : (rank : ℕ → ℕ → Ordering) (fewer : ℕ → Option ℕ) → AreAmong fewer moments → (queue left : List NumberedMoment) (r : Option NumberedMoment) → queue ≡ left ++ option_to_list r → IsOutdated moments (last_or None queue)
+  leaves : (fewer : ℕ → Option ℕ) → AreAmong fewer moments → (queue left : List NumberedMoment) (s : NumberedMoment) → IsQueue rank left → (IsCurrent moments s → ⊥) → ((x : NumberedMoment) → StandsIn queue x → (s ≡ x) ⊎ StandsIn left x)
       → AreKept rank fewer (with_queue queue) → AreKept rank fewer (with_queue left)
-  last_leaves rank fewer among queue left None is out kept = subst (λ l. AreKept rank fewer (with_queue l)) (is ∙ append-nil left) kept
-  last_leaves rank fewer among queue left (Some s) is out kept =
-      let all : AreKept rank fewer (with_queue (left ++ s ∷ [])) = subst (λ l. AreKept rank fewer (with_queue l)) is kept in
-      let outdated : IsCurrent moments s → ⊥ = subst (IsOutdated moments) (ap (last_or None) is ∙ last_is None left s) out in
-      record {
-        queue = queue_init rank left s all.queue;
-        rest = all.rest;
-        stands = λ x current. by x current outdated (all.stands x current);
-      }
-    where
-      by : (x : NumberedMoment) → IsCurrent fewer x → (IsCurrent moments s → ⊥) → Stands (with_queue (left ++ s ∷ [])) x → Stands (with_queue left) x
-      by x current outdated (inr h) = inr h
-      by x current outdated (inl h) = from (stands_before left s x h)
-        where
-          from : (s ≡ x) ⊎ StandsIn left x → Stands (with_queue left) x
-          from (inl same) = absurd (outdated (subst (IsCurrent moments) (sym same) (among x current)))
-          from (inr h) = inl h
+  leaves fewer among queue left s sorted outdated stood kept = record {
+    queue = sorted;
+    rest = kept.rest;
+    stands = λ x at. ⊎_map (λ h. ⊎_elim (λ same. absurd (outdated (subst (IsCurrent moments) (sym same) (among x at)))) (λ h. h) (stood x h)) (λ h. h) (kept.stands x at);
+  }
 
-  pub first_leaves : (rank : ℕ → ℕ → Ordering) (queue left : List NumberedMoment) (r : Option NumberedMoment) → queue ≡ option_to_list r ++ left → IsOutdated moments (slice_get queue 0)
+  pub last_leaves : (fewer : ℕ → Option ℕ) → AreAmong fewer moments → (queue left : List NumberedMoment) (r : Option NumberedMoment) → queue ≡ left ++ option_to_list r → IsOutdated moments (last_or None queue)
+      → AreKept rank fewer (with_queue queue) → AreKept rank fewer (with_queue left)
+  last_leaves fewer among queue left None is out kept = subst (λ l. AreKept rank fewer (with_queue l)) (is ∙ append-nil left) kept
+  last_leaves fewer among queue left (Some s) is out kept =
+      let all = subst (λ l. AreKept rank fewer (with_queue l)) is kept in
+      leaves fewer among (left ++ s ∷ []) left s (queue_init rank left s all.queue) (subst (IsOutdated moments) (ap (last_or None) is ∙ last_is None left s) out) (stands_before left s) all
+
+  pub first_leaves : (queue left : List NumberedMoment) (r : Option NumberedMoment) → queue ≡ option_to_list r ++ left → IsOutdated moments (slice_get queue 0)
       → AreKept rank moments (with_queue queue) → AreKept rank moments (with_queue left)
-  first_leaves rank queue left None is out kept = subst (λ l. AreKept rank moments (with_queue l)) is kept
-  first_leaves rank queue left (Some s) is out kept =
-      let all : AreKept rank moments (with_queue (s ∷ left)) = subst (λ l. AreKept rank moments (with_queue l)) is kept in
-      let outdated : IsCurrent moments s → ⊥ = subst (λ (l : List NumberedMoment). IsOutdated moments (slice_get l 0)) is out in
-      record {
-        queue = queue_tail rank s left all.queue;
-        rest = all.rest;
-        stands = λ x current. by x current outdated (all.stands x current);
-      }
-    where
-      by : (x : NumberedMoment) → IsCurrent moments x → (IsCurrent moments s → ⊥) → Stands (with_queue (s ∷ left)) x → Stands (with_queue left) x
-      by x current outdated (inr h) = inr h
-      by x current outdated (inl (inl same)) = absurd (outdated (subst (IsCurrent moments) (sym same) current))
-      by x current outdated (inl (inr h)) = inl h
+  first_leaves queue left None is out kept = subst (λ l. AreKept rank moments (with_queue l)) is kept
+  first_leaves queue left (Some s) is out kept =
+      let all = subst (λ l. AreKept rank moments (with_queue l)) is kept in
+      leaves moments (λ x at. at) (s ∷ left) left s (queue_tail rank s left all.queue) (subst (λ (l : List NumberedMoment). IsOutdated moments (slice_get l 0)) is out) (λ x h. h) all
 
 pub stood_last : (queue left : List NumberedMoment) (r : Option NumberedMoment) → queue ≡ left ++ option_to_list r → (s : NumberedMoment) → StandsIn left s → StandsIn queue s
 stood_last queue left None is s h = subst (λ l. StandsIn l s) (sym (is ∙ append-nil left)) h
@@ -134,87 +112,43 @@ module _ (moments : ℕ → Option ℕ) (s : NumberedMoment) (now : IsCurrent mo
   abbrev before : ℕ → Option ℕ
   before = changed_back moments s.number None
 
-  -- a moment that is current is this one, or was current before
-  now_or_before : (x : NumberedMoment) → IsCurrent moments x → (s ≡ x) ⊎ ((x.number ≢ s.number) × IsCurrent before x)
-  now_or_before x at = by (cases_eq x.number s.number)
-    where
-      by : (x.number ≡ s.number) ⊎ (x.number ≢ s.number) → (s ≡ x) ⊎ ((x.number ≢ s.number) × IsCurrent before x)
-      by (inl same) =
-          let moment : s.moment ≡ x.moment = same_Some s.moment x.moment (sym now ∙ ap moments (sym same) ∙ at) in
-          inl (λ i. record { moment = moment i; number = sym same i })
-      by (inr apart) = inr (apart, apart_from moments s.number None x.number apart ∙ at)
-
   module _ (queue : List NumberedMoment) (rest : Tournament) (rank : ℕ → ℕ → Ordering) where
     abbrev was : Earliest
     was = record { queue = queue; rest = rest }
 
-    abbrev with : List NumberedMoment → Tournament → Earliest
-    with queue rest = record { queue = queue; rest = rest }
+    -- it stands now, and so do those of other numbers
+    joins : (u : Earliest) → IsQueue rank u.queue → IsTournament rank u.rest → Stands u s → ((x : NumberedMoment) → x.number ≢ s.number → Stands was x → Stands u x) → AreKept rank before was → AreKept rank moments u
+    joins u sorted played here stood kept = record { queue = sorted; rest = played; stands = λ x at. by x at (cases_eq x.number s.number) }
+      where
+        by : (x : NumberedMoment) → IsCurrent moments x → (x.number ≡ s.number) ⊎ (x.number ≢ s.number) → Stands u x
+        by x at (inl same) =
+            let moment : s.moment ≡ x.moment = same_Some s.moment x.moment (sym now ∙ ap moments (sym same) ∙ at) in
+            subst (Stands u) (λ i. record { moment = moment i; number = sym same i }) here
+        by x at (inr apart) = stood x apart (kept.stands x (apart_from moments s.number None x.number apart ∙ at))
 
     -- ---- at the end of the queue
 
-    pub held_last : (n : ℕ) → IsHeld (with (queue ++ s ∷ []) rest) n → IsHeld was n ⊎ (n ≡ s.number)
+    pub held_last : (n : ℕ) → IsHeld (record { queue = queue ++ s ∷ []; rest = rest }) n → IsHeld was n ⊎ (n ≡ s.number)
     held_last n (m, inr h) = inl (m, inr h)
-    held_last n (m, inl h) = by (stands_before queue s _ h)
-      where
-        by : (s ≡ record { moment = m; number = n }) ⊎ StandsIn queue (record { moment = m; number = n }) → IsHeld was n ⊎ (n ≡ s.number)
-        by (inl is) = inr (ap (λ (x : NumberedMoment). x.number) (sym is))
-        by (inr h) = inl (m, inl h)
+    held_last n (m, inl h) = ⊎_elim (λ is. inr (ap (λ (x : NumberedMoment). x.number) (sym is))) (λ h. inl (m, inl h)) (stands_before queue s _ h)
 
-    pub kept_last : are_in_order rank (last_or None queue) (Some s) ≡ true → AreKept rank before was → AreKept rank moments (with (queue ++ s ∷ []) rest)
-    kept_last order kept = record {
-      queue = queue_longer rank queue s order kept.queue;
-      rest = kept.rest;
-      stands = λ x at. by x (now_or_before x at);
-    }
-      where
-        more : (x : NumberedMoment) → Stands was x → Stands (with (queue ++ s ∷ []) rest) x
-        more x (inl h) = inl (stands_more queue s x h)
-        more x (inr h) = inr h
-
-        by : (x : NumberedMoment) → (s ≡ x) ⊎ ((x.number ≢ s.number) × IsCurrent before x) → Stands (with (queue ++ s ∷ []) rest) x
-        by x (inl is) = inl (subst (StandsIn (queue ++ s ∷ [])) is (stands_last queue s))
-        by x (inr h) = more x (kept.stands x h.1)
+    pub kept_last : are_in_order rank (last_or None queue) (Some s) ≡ true → AreKept rank before was → AreKept rank moments (record { queue = queue ++ s ∷ []; rest = rest })
+    kept_last order kept = joins _ (queue_longer rank queue s order kept.queue) kept.rest (inl (stands_last queue s)) (λ x apart. ⊎_map (stands_more queue s x) (λ h. h)) kept
 
     -- ---- at the front of the queue
 
-    pub kept_first : are_in_order rank (Some s) (slice_get queue 0) ≡ true → AreKept rank before was → AreKept rank moments (with (s ∷ queue) rest)
-    kept_first order kept = record {
-      queue = queue_earlier rank s queue order kept.queue;
-      rest = kept.rest;
-      stands = λ x at. by x (now_or_before x at);
-    }
-      where
-        more : (x : NumberedMoment) → Stands was x → Stands (with (s ∷ queue) rest) x
-        more x (inl h) = inl (inr h)
-        more x (inr h) = inr h
-
-        by : (x : NumberedMoment) → (s ≡ x) ⊎ ((x.number ≢ s.number) × IsCurrent before x) → Stands (with (s ∷ queue) rest) x
-        by x (inl is) = inl (inl is)
-        by x (inr h) = more x (kept.stands x h.1)
+    pub kept_first : are_in_order rank (Some s) (slice_get queue 0) ≡ true → AreKept rank before was → AreKept rank moments (record { queue = s ∷ queue; rest = rest })
+    kept_first order kept = joins _ (queue_earlier rank s queue order kept.queue) kept.rest (inl (inl refl)) (λ x apart. ⊎_map (λ h. inr h) (λ h. h)) kept
 
     -- ---- among the rest
 
     module _ (next : Tournament) (set : next.moments ≡ slice_set rest.moments s.number (Some s.moment)) (room : s.number < length rest.moments) where
-      pub held_rest : (n : ℕ) → IsHeld (with queue next) n → IsHeld was n ⊎ (n ≡ s.number)
+      apart_is : (n : ℕ) → n ≢ s.number → value_at next.moments n ≡ value_at rest.moments n
+      apart_is n apart = ap (λ l. value_at l n) set ∙ value_apart rest.moments s.number n (Some s.moment) apart
+
+      pub held_rest : (n : ℕ) → IsHeld (record { queue = queue; rest = next }) n → IsHeld was n ⊎ (n ≡ s.number)
       held_rest n (m, inl h) = inl (m, inl h)
-      held_rest n (m, inr h) = by (cases_eq n s.number)
-        where
-          by : (n ≡ s.number) ⊎ (n ≢ s.number) → IsHeld was n ⊎ (n ≡ s.number)
-          by (inl same) = inr same
-          by (inr apart) = inl (m, inr (sym (value_apart rest.moments s.number n (Some s.moment) apart) ∙ ap (λ l. value_at l n) (sym set) ∙ h))
+      held_rest n (m, inr h) = ⊎_elim (λ same. inr same) (λ apart. inl (m, inr (sym (apart_is n apart) ∙ h))) (cases_eq n s.number)
 
-      pub kept_rest : IsTournament rank next → AreKept rank before was → AreKept rank moments (with queue next)
-      kept_rest played kept = record {
-        queue = kept.queue;
-        rest = played;
-        stands = λ x at. by x (now_or_before x at);
-      }
-        where
-          more : (x : NumberedMoment) → x.number ≢ s.number → Stands was x → Stands (with queue next) x
-          more x apart (inl h) = inl h
-          more x apart (inr h) = inr (ap (λ l. value_at l x.number) set ∙ value_apart rest.moments s.number x.number (Some s.moment) apart ∙ h)
-
-          by : (x : NumberedMoment) → (s ≡ x) ⊎ ((x.number ≢ s.number) × IsCurrent before x) → Stands (with queue next) x
-          by x (inl is) = subst (Stands (with queue next)) is (inr (ap (λ l. value_at l s.number) set ∙ value_set rest.moments s.number (Some s.moment) room))
-          by x (inr h) = more x h.0 (kept.stands x h.1)
+      pub kept_rest : IsTournament rank next → AreKept rank before was → AreKept rank moments (record { queue = queue; rest = next })
+      kept_rest played kept = joins _ kept.queue played (inr (ap (λ l. value_at l s.number) set ∙ value_set rest.moments s.number (Some s.moment) room)) (λ x apart. ⊎_map (λ h. h) (λ h. apart_is x.number apart ∙ h)) kept

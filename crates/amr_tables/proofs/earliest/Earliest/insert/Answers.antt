@@ -3,6 +3,7 @@ use Rattle.std.proofs.Math.Logic.{⊎_map}
 use Rattle.std.specs.Prelude.{◌⊎◌}
 use Rattle.std.specs.List.{last_or}
 use Rattle.amr_tables.specs.declared.earliest.NumberedMoment.{NumberedMoment}
+use Rattle.amr_tables.specs.Tournament.{Tournament, moment_at}
 use Rattle.amr_tables.specs.Earliest.{Earliest, IsHeld, changed_back, are_in_order, AreKept}
 use Rattle.amr_tables.proofs.Queueing.{held_last, kept_last}
 use Rattle.amr_tables.proofs.Firsts.{others, held_shorter}
@@ -35,4 +36,4 @@ insert_before-requires-clause-kept g c =
 
 pub returns-clause-held : goal.returns-clause-held
 returns-clause-held g c = λ n held.
-    ⊎_map (held_shorter c.args.self.now c.drop_last.new.self c.drop_last.ensures.rest c.drop_last.ensures.queue n) (λ same. same) (c.insert_before.ensures.held n held)
+    ⊎_map (held_shorter c.args.self.now c.drop_last.new.self (λ k. ap (λ (t : Tournament). moment_at t k) c.drop_last.ensures.rest) c.drop_last.ensures.queue n) (λ same. same) (c.insert_before.ensures.held n held)

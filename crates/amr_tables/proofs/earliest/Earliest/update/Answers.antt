@@ -1,4 +1,5 @@
-use Rattle.std.proofs.Common.{rules, inl, None, sym, subst, ◌∙◌}
+use Rattle.std.proofs.Common.{rules, inl, None, ap, sym, subst, ◌∙◌}
+use Rattle.amr_tables.specs.Tournament.{Tournament, moment_at}
 use Rattle.amr_tables.specs.Earliest.{IsHeld, IsOrdered, changed_back, AreKept}
 use Rattle.amr_tables.proofs.Firsts.{changed_nothing, others_former, kept_among, held_shorter}
 use Rattle.amr_tables.proofs.earliest.Earliest.update.Goals as goal
@@ -28,7 +29,7 @@ drop_winners-requires g c =
 
 pub returns-clause-held : goal.returns-clause-held
 returns-clause-held g c = λ n held.
-    let before : IsHeld c.match-moment.self n = held_shorter c.match-moment.self c.drop_first.new.self c.drop_first.ensures.rest c.drop_first.ensures.queue n (c.drop_winners.ensures.held n held) in
+    let before : IsHeld c.match-moment.self n = held_shorter c.match-moment.self c.drop_first.new.self (λ k. ap (λ (t : Tournament). moment_at t k) c.drop_first.ensures.rest) c.drop_first.ensures.queue n (c.drop_winners.ensures.held n held) in
     elim c.match-moment.branch [
       | in-Some w ↦ w.insert.ensures.held n (subst (λ x. IsHeld x n) w.self-is before)
       | in_default w ↦ inl (subst (λ x. IsHeld x n) w.self-is before)

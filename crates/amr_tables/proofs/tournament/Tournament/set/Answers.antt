@@ -1,8 +1,9 @@
-use Rattle.std.proofs.Common.{rules, ◌≡◌, ◌≢◌, ◌<◌, ◌/◌, ◌+◌, length, length-set, refl, slice_set, sym, ap, subst, ◌∙◌, arith}
-use Rattle.std.proofs.lemmas.Bool.Decides.{nat_tests}
+use Rattle.std.proofs.Common.{rules, ◌≡◌, ◌<◌, ◌≤◌, ◌/◌, ◌+◌, length, length-set, refl, slice_set, sym, ap, subst, ◌∙◌, arith}
 use Rattle.amr_tables.specs.Tournament.{Tournament, later_winner, IsTournament}
 use Rattle.amr_tables.proofs.Placing.{same_value_set}
-use Rattle.amr_tables.proofs.Playing.{IsClimbed, begun, climbs, ended, half_as_was, stopped, half_bounds}
+use Rattle.amr_tables.proofs.Playing.{IsClimbed, begun, climbs, ended, now, half_as_was, stopped_at, half_bounds}
+use Rattle.amr_tables.proofs.tournament.Tournament.set.Given.{Over}
+use Rattle.amr_tables.proofs.tournament.Tournament.set.Goals.{After-play-former}
 use Rattle.amr_tables.proofs.tournament.Tournament.set.Goals as goal
 
 pub loop-node-init : goal.loop-node-init
@@ -10,55 +11,50 @@ loop-node-init g c =
     let t : Tournament = record { moments = c.self.inside.moments.items; winners = c.self.inside.winners.items } in
     let rank = g.S.Schedule.rank c.args.schedule.now in
     let len : length (slice_set t.moments c.args.number c.args.moment) ≡ length t.moments = length-set t.moments c.args.number c.args.moment in
-    let room : c.args.number < length t.moments = subst (λ (x : Tournament). c.args.number < length x.moments) (sym c.self.view_is) c.requires.room in
-    let played : IsTournament rank t = subst (IsTournament rank) (sym c.self.view_is) c.requires.kept in
-    let at : c.len.result ≡ length t.moments = c.len.ensures ∙ c.self.inside.moments.ok.0 in
+    let at : c.len.result ≡ length (slice_set t.moments c.args.number c.args.moment) = c.len.ensures ∙ c.self.inside.moments.ok.0 ∙ sym len in
     let changed : Tournament = record t { moments = slice_set t.moments c.args.number c.args.moment } in
+    let room : c.args.number < length t.moments = subst (λ (x : Tournament). c.args.number < length x.moments) (sym c.self.view_is) c.requires.room in
     record {
       moments = refl;
-      first = omega (arith, at, room);
-      inner = omega (arith, at, room, len);
+      first = omega (arith, at, len, room);
+      inner = omega (arith, at, len, room);
       nodes = c.self.invariant ∙ sym len;
-      climbed = subst (λ x. IsClimbed rank c.args.number changed changed x) (sym (ap (λ l. l + c.args.number) at)) (begun rank t played c.args.number c.args.moment len);
+      climbed = subst (λ x. IsClimbed rank c.args.number changed changed (x + c.args.number)) (sym at) (begun rank t c.args.number c.args.moment len (subst (IsTournament rank) (sym c.self.view_is) c.requires.kept));
     }
+
+-- a match was played: what is known of the node before, and what of the half of it now
+module _ (g : Over) (c : After-play-former g) where
+  bounds : (1 ≤ c.loop-node.node / 2) × (c.loop-node.node / 2 < length c.loop-node.self.moments)
+  bounds = half_bounds c.loop-node.node (length c.loop-node.self.moments) c.loop-node-test.true c.loop-node.invariant.inner
+
+  inner : c.loop-node.node / 2 < length (slice_set c.self.inside.moments.items c.args.number c.args.moment)
+  inner = subst (λ ms. c.loop-node.node / 2 < length ms) c.loop-node.invariant.moments bounds.1
+
+  climbed : IsClimbed (g.S.Schedule.rank c.args.schedule.now) c.args.number (record { moments = slice_set c.self.inside.moments.items c.args.number c.args.moment; winners = c.self.inside.winners.items }) c.play-former.new.self (c.loop-node.node / 2)
+  climbed = climbs c.loop-node.invariant.climbed bounds.0 inner (λ k.
+      now _ c.loop-node.self c.play-former.new.self _ k c.loop-node.invariant.moments (λ i. record { moments = c.play-former.ensures.moments i; winners = c.play-former.ensures.winners i }) bounds.1 c.loop-node.invariant.nodes)
 
 pub loop-node-preserved : goal.loop-node-preserved
 loop-node-preserved g c =
-    let t : Tournament = record { moments = slice_set c.self.inside.moments.items c.args.number c.args.moment; winners = c.self.inside.winners.items } in
+    let d = (goal.at.loop-node-preserved g c).After-play-former in
     let u : Tournament = c.loop-node.self in
-    let rank = g.S.Schedule.rank c.args.schedule.now in
-    let node = c.loop-node.node in
-    let bounds = half_bounds node (length u.moments) (grind (arith, nat_tests)) c.loop-node.invariant.inner in
     record {
       moments = c.play-former.ensures.moments ∙ c.loop-node.invariant.moments;
-      first = bounds.0;
-      inner = omega (arith, bounds.1, ap length c.play-former.ensures.moments);
-      nodes = ap length c.play-former.ensures.winners ∙ length-set u.winners (node / 2) (later_winner rank u (node / 2)) ∙ c.loop-node.invariant.nodes ∙ sym (ap length c.play-former.ensures.moments);
-      climbed = climbs rank c.args.number t u node c.loop-node.invariant.climbed c.loop-node.invariant.moments bounds.0 (subst (λ ms. node / 2 < length ms) c.loop-node.invariant.moments bounds.1) c.loop-node.invariant.nodes
-          c.play-former.new.self (λ i. record { moments = c.play-former.ensures.moments i; winners = c.play-former.ensures.winners i });
+      first = (bounds g d).0;
+      inner = omega (arith, (bounds g d).1, ap length c.play-former.ensures.moments);
+      nodes = ap length c.play-former.ensures.winners ∙ length-set u.winners (c.loop-node.node / 2) (later_winner (g.S.Schedule.rank c.args.schedule.now) u (c.loop-node.node / 2)) ∙ c.loop-node.invariant.nodes ∙ sym (ap length c.play-former.ensures.moments);
+      climbed = climbed g d;
     }
 
 pub returns-then-winner-former-clause-kept : goal.returns-then-winner-former-clause-kept
 returns-then-winner-former-clause-kept g c =
-    let t : Tournament = record { moments = slice_set c.self.inside.moments.items c.args.number c.args.moment; winners = c.self.inside.winners.items } in
-    let u : Tournament = c.loop-node.self in
-    let rank = g.S.Schedule.rank c.args.schedule.now in
-    let n = c.args.number in
-    let node = c.loop-node.node in
-    let bounds = half_bounds node (length u.moments) (grind (arith, nat_tests)) c.loop-node.invariant.inner in
-    let inner : node / 2 < length t.moments = subst (λ ms. node / 2 < length ms) c.loop-node.invariant.moments bounds.1 in
-    let climbed = climbs rank n t u node c.loop-node.invariant.climbed c.loop-node.invariant.moments bounds.0 inner c.loop-node.invariant.nodes
-    c.play-former.new.self (λ i. record { moments = c.play-former.ensures.moments i; winners = c.play-former.ensures.winners i }) in
-    let alike : c.winner.result ≡ c.play-former.result = grind (arith, nat_tests) in
-    let apart : c.play-former.result ≢ n = grind (arith, nat_tests) in
-    stopped rank n t c.play-former.new.self (node / 2) climbed (c.play-former.ensures.moments ∙ c.loop-node.invariant.moments)
-    (sym c.winner.ensures ∙ alike ∙ c.play-former.ensures.former ∙ half_as_was rank n t u node c.loop-node.invariant.climbed c.loop-node.invariant.moments bounds.0 inner c.loop-node.invariant.nodes)
-    (λ e. apart (sym alike ∙ c.winner.ensures ∙ e))
+    let d = (goal.at.returns-then-winner-former-clause-kept g c).After-play-former in
+    let won = sym c.winner.ensures ∙ c.if-winner-former.true in
+    stopped_at _ _ c.play-former.new.self (climbed g d) (c.play-former.ensures.moments ∙ c.loop-node.invariant.moments)
+    (won ∙ c.play-former.ensures.former ∙ half_as_was c.loop-node.invariant.climbed (bounds g d).0 (inner g d)) (λ e. c.if-former-number.true (sym won ∙ e))
 
 pub returns-clause-kept : goal.returns-clause-kept
-returns-clause-kept g c =
-    let t : Tournament = record { moments = slice_set c.self.inside.moments.items c.args.number c.args.moment; winners = c.self.inside.winners.items } in
-    ended (g.S.Schedule.rank c.args.schedule.now) c.args.number t c.loop-node.self c.loop-node.node c.loop-node.invariant.climbed c.loop-node.invariant.moments (grind (arith, nat_tests))
+returns-clause-kept g c = ended _ _ c.loop-node.self c.loop-node.invariant.climbed c.loop-node.invariant.moments c.loop-node-test.false
 
 pub returns-then-eq-clause-moments : goal.returns-then-eq-clause-moments
-returns-then-eq-clause-moments g c = same_value_set c.args.self.now.moments c.args.number c.args.moment c.requires.room (sym c.at.ensures ∙ search rules)
+returns-then-eq-clause-moments g c = same_value_set c.args.self.now.moments c.args.number c.args.moment (sym c.at.ensures ∙ search rules)
