@@ -41,6 +41,7 @@ impl<K: Key, V> Model for Keyed<K, V> {
 
 impl<K: Key + Drop, V: Drop> Keyed<K, V> {
     /// Builds a table without keys.
+    #[tactic(auto, using(crate::proofs::Numbering::shown_none), unfolding(crate::specs::Numbered::is_entered))]
     pub fn new(alloc: Global) -> Keyed<K, V>
         ensures shown { map_of K.cmp result ≡ map.empty }
         ensures entered { NoneEntered K.cmp result }
@@ -142,6 +143,7 @@ impl<K: Key + Drop, V: Drop> Keyed<K, V> {
     }
 
     /// Makes an empty place for a key, unless it has one. Returns its number.
+    #[tactic(auto, unfolding(crate::specs::Numbered::has_place))]
     pub fn make_place(&mut self, key: K) -> Result<usize, AllocError>
         ensures made { IfOk result (λ number. number_of K.cmp self.new key ≡ Some number) }
         ensures places { KeepsPlaces K.cmp self.old self.new }
@@ -199,6 +201,7 @@ impl<K: Key + Drop, V: Drop> Keyed<K, V> {
     }
 
     /// Clears the marks of all places. It takes no memory.
+    #[tactic(auto, using(crate::proofs::Numbering::no_mark), unfolding(crate::specs::Numbered::map_of, crate::specs::Numbered::has_place, crate::specs::Numbered::is_entered))]
     pub fn clear_entered(&mut self)
         ensures entered { NoneEntered K.cmp self.new }
         ensures shown { map_of K.cmp self.new ≡ map_of K.cmp self.old }
