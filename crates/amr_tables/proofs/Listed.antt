@@ -10,6 +10,7 @@ use Rattle.std.proofs.lemmas.List.Elements.{filter_map-append}
 use Rattle.amr_labels.proofs.Sorted.{both, first, second}
 use Rattle.amr_labels.specs.Map.{entries, from_sorted, if_sorted, empty}
 use Rattle.amr_tables.specs.Places.{value_at, values_of}
+use Rattle.amr_tables.proofs.Numbering.{with_entry}
 use Rattle.amr_tables.specs.Numbered.{Numbered, entry_at, numbered_key, map_of}
 
 module _ {K V : Type 0} (cells : List (Option V)) where
@@ -35,15 +36,11 @@ value_passes p (None ∷ cells) (suc n) value all is = value_passes p cells n va
 value_passes p (Some first_value ∷ cells) zero value all is = subst (λ v. T (p v)) (ap (λ o. unwrap_or o first_value) is) (first _ _ all)
 value_passes p (Some first_value ∷ cells) (suc n) value all is = value_passes p cells n value (second _ _ all) is
 
-module _ {K V : Type 0} (p : V → Bool) where
-  one_more : (key : K) (found : Option V) (rest : List (K × V)) → ((value : V) → found ≡ Some value → T (p value)) → T (list_all (λ entry. p entry.1) rest) → T (list_all (λ entry. p entry.1) (cons_option (option_map (λ value. (key, value)) found) rest))
-  one_more key None rest passes all = all
-  one_more key (Some value) rest passes all = both _ _ (passes value refl) all
-
-  covers : (cells : List (Option V)) (keys : List (K × ℕ)) → T (list_all p (values_of cells)) → T (list_all (λ entry. p entry.1) (filter_map (entry_at cells) keys))
-  covers cells [] all = tt
-  covers cells (key ∷ keys) all =
-      one_more key.0 (value_at cells key.1) _ (λ value is. value_passes p cells key.1 value all is) (covers cells keys all)
+covers : {K V : Type 0} (p : V → Bool) (cells : List (Option V)) (keys : List (K × ℕ)) → T (list_all p (values_of cells)) → T (list_all (λ entry. p entry.1) (filter_map (entry_at cells) keys))
+covers p cells [] all = tt
+covers p cells (key ∷ keys) all =
+    let rest = covers p cells keys all in
+    with_entry (λ l. T (list_all (λ entry. p entry.1) l)) key.0 (value_at cells key.1) _ rest (λ value is. both _ _ (value_passes p cells key.1 value all is) rest)
 
 module _ {K V : Type 0} (R : K → K → Ordering) where
   of_entries : (P : List (K × V) → Type 0) (es : List (K × V)) (b : Bool) (e : is_sorted R es ≡ b) → P es → P [] → P (entries (if_sorted es b e empty))

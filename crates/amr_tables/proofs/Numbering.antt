@@ -8,20 +8,21 @@ use Rattle.std.specs.declared.cmp.Ordering.TheVariants.{Equal}
 use Rattle.std.specs.Ordering.{eq_by_cmp, is_lt}
 use Rattle.std.specs.Cmp.{IsTotalOrder, eq_by_cmp_equiv, tied_itself}
 use Rattle.std.specs.FinMap.{find, put, is_sorted, IsAntisymmetric}
-use Rattle.std.specs.FinMap.Entries.{below_all, find-put, is_sorted-put, find_tied, length-put}
+use Rattle.std.specs.FinMap.Entries.{below_all, find-put, is_sorted-put, length-put}
 use Rattle.std.proofs.lemmas.List.{get_or-set_same, get_or-set_other, length-map}
 use Rattle.std.proofs.lemmas.Option.{unwrap_or-slice_get, slice_get-map}
 use Rattle.amr_labels.proofs.Sorted.{both, first, second, less}
 use Rattle.amr_labels.specs.Map.{from_sorted, entries, get, empty, same_map, same_entries_map, entries-from_sorted, get-entries, get-set}
 use Rattle.amr_tables.specs.Places.{value_at, is_marked}
 use Rattle.amr_tables.proofs.Placing.{value_set, value_apart, value_past, value_push, length-push}
+use Rattle.amr_tables.proofs.Counting.{alike}
 use Rattle.amr_tables.proofs.Present.{marked_push}
 use Rattle.amr_tables.specs.Numbered.{Numbered, entry_at, number_of, has_place, is_entered, map_of, IsNumbering, IsSetAt, EntersAt, SamePlaces, SameEntered, KeepsPlaces, GetsNumber}
 
-module _ {K : Type 0} {R : K → K → Ordering} (o : IsTotalOrder R) where
-  -- keys that tie find the same
-  alike : {X : Type 0} (q k : K) (es : List (K × X)) → R q k ≡ Equal → find R q es ≡ find R k es
-  alike q k es tie = sym (find_tied R o q k tie es)
+-- what is so of a list, and of it behind the key with its value, is so where the key may have one
+pub with_entry : {K V : Type 0} (P : List (K × V) → Type 0) (k : K) (found : Option V) (rest : List (K × V)) → P rest → ((v : V) → found ≡ Some v → P ((k, v) ∷ rest)) → P (cons_option (option_map (λ v. (k, v)) found) rest)
+with_entry P k None rest all more = all
+with_entry P k (Some v) rest all more = more v refl
 
 module _ {K V : Type 0} (R : K → K → Ordering) where
   find-cons : (q k : K) (o : Option V) (rest : List (K × V)) → find R q (cons_option (option_map (λ v. (k, v)) o) rest) ≡ cond (eq_by_cmp R q k) (option_or o (find R q rest)) (find R q rest)
@@ -42,22 +43,17 @@ module _ {K V : Type 0} (R : K → K → Ordering) where
       let gone = λ (tie : R q e.0 ≡ Equal). absent o cells q e.0 es tie (first (below_all R e.0 es) (is_sorted R es) h) in
       grind (arith, find-cons q e.0 (value_at cells e.1) (filter_map (entry_at cells) es), rest, gone)
 
-  -- what is so of a list, and of it behind the key with any value, is so where the key may have one
-  with_entry : (P : List (K × V) → Type 0) (k : K) (o : Option V) (rest : List (K × V)) → P rest → ((v : V) → P ((k, v) ∷ rest)) → P (cons_option (option_map (λ v. (k, v)) o) rest)
-  with_entry P k None rest all more = all
-  with_entry P k (Some v) rest all more = more v
-
   below-entries : (cells : List (Option V)) (x : K) (es : List (K × ℕ)) → T (below_all R x es) → T (below_all R x (filter_map (entry_at cells) es))
   below-entries cells x [] h = tt
   below-entries cells x (e ∷ es) h =
       let rest = below-entries cells x es (second _ _ h) in
-      with_entry (λ l. T (below_all R x l)) e.0 (value_at cells e.1) _ rest (λ v. both _ _ (first _ _ h) rest)
+      with_entry (λ l. T (below_all R x l)) e.0 (value_at cells e.1) _ rest (λ v _. both _ _ (first _ _ h) rest)
 
   sorted-entries : (cells : List (Option V)) (es : List (K × ℕ)) → T (is_sorted R es) → T (is_sorted R (filter_map (entry_at cells) es))
   sorted-entries cells [] h = tt
   sorted-entries cells (e ∷ es) h =
       let rest = sorted-entries cells es (second _ _ h) in
-      with_entry (λ l. T (is_sorted R l)) e.0 (value_at cells e.1) _ rest (λ v. both _ _ (below-entries cells e.0 es (first _ _ h)) rest)
+      with_entry (λ l. T (is_sorted R l)) e.0 (value_at cells e.1) _ rest (λ v _. both _ _ (below-entries cells e.0 es (first _ _ h)) rest)
 
   pub entries-shown : (t : Numbered K V) → IsNumbering R t → entries (map_of R t) ≡ filter_map (entry_at t.cells) t.numbers
   unfolding map_of
