@@ -1,12 +1,14 @@
 -- Which numbers are in their groups, as rows change.
-use Rattle.std.proofs.Common.{◌≡◌, ◌≢◌, ℕ, suc, zero, not, ◌+◌, ◌-◌, ◌<◌, ◌≤◌, cond, Bool, true, false, IsTrue, ◌||◌, Option, Some, None, List, [], ◌∷◌, ◌++◌, length, get_or, map, slice_set, take, refl, sym, ap, subst, ◌∙◌, arith, length-append}
+use Rattle.std.proofs.Common.{◌≡◌, ℕ, suc, zero, not, ◌+◌, ◌-◌, ◌<◌, ◌≤◌, cond, Bool, true, false, IsTrue, Option, Some, None, List, [], ◌∷◌, ◌++◌, length, get_or, map, slice_set, take, refl, sym, ap, subst, ◌∙◌, arith, length-append}
 use Rattle.std.specs.Prelude.{◌==◌, nat_lt, slice_get, option_map, option_and_then, unwrap_or}
 use Rattle.std.specs.Option.{option_map_or}
-use Rattle.std.specs.List.{list_any, IsDistinct, AllByRecursion}
-use Rattle.std.proofs.lemmas.Bool.{true≢false}
+use Rattle.std.specs.List.{list_any}
+use Rattle.std.proofs.lemmas.Bool.{eq-eqb}
 use Rattle.std.proofs.lemmas.Bool.Decides.{nat_tests}
-use Rattle.std.proofs.lemmas.Option.{none-some, same_Some, slice_get-map, slice_get_read, slice_get_past}
-use Rattle.std.proofs.lemmas.List.{length-map, length-set}
+use Rattle.std.proofs.lemmas.Option.{same_Some, slice_get-map, slice_get-get_or, slice_get_read, slice_get_past}
+use Rattle.std.proofs.lemmas.List.{length-map, length-set, length-take-le, get_or-take}
+use Rattle.std.proofs.lemmas.List.Folds.{Any-from_list_any, list_any_at}
+use Rattle.std.proofs.lemmas.Map.Keys.{IsDistinct-from_apart}
 use Rattle.std.specs.Bool.{beq}
 use mir.Val.{bool_byte}
 use Rattle.amr_tables.specs.Places.{is_marked}
@@ -26,16 +28,11 @@ get_push (y ∷ xs) x (suc k) = let rest = get_push xs x k in grind (arith, nat_
 
 -- one more place that isn't marked
 pub marked_push : (marks : List Bool) (n : ℕ) → is_marked (marks ++ false ∷ []) n ≡ is_marked marks n
-marked_push [] zero = refl
-marked_push [] (suc n) = refl
-marked_push (mark ∷ marks) zero = refl
-marked_push (mark ∷ marks) (suc n) = marked_push marks n
+marked_push marks n = grind (arith, nat_tests, get_push marks false n, slice_get_past marks n)
 
 -- a place that is marked exists
 pub marked_within : (marks : List Bool) (n : ℕ) → is_marked marks n ≡ true → n < length marks
-marked_within [] n is = absurd (true≢false (sym is))
-marked_within (mark ∷ marks) zero is = omega arith
-marked_within (mark ∷ marks) (suc n) is = let within = marked_within marks n is in omega (arith, within)
+marked_within marks n is = grind (arith, slice_get_past marks n, is)
 
 -- ---- rows that change, with the same numbers in them
 
@@ -102,80 +99,46 @@ module _ {seats : List Seat} {rows : List Row} (is : IsSeating seats rows) (g : 
 
 -- ---- the numbers that are in a group
 
-module _ (P : ℕ → ℕ) where
-  -- numbers at positions of their own are distinct
-  pub placed_apart : (xs : List ℕ) (k : ℕ) → ((i n : ℕ) → slice_get xs i ≡ Some n → P n ≡ k + i) → IsDistinct (λ (a b : ℕ). a == b) xs
-  unfolding IsDistinct
-  placed_apart [] k at = tt
-  placed_apart (x ∷ xs) k at = (apart xs (suc k) (at 0 x refl) (λ i n e. let here = at (suc i) n e in omega (arith, here)) (omega arith), placed_apart xs (suc k) (λ i n e. let here = at (suc i) n e in omega (arith, here)))
-    where
-      apart : (ys : List ℕ) (j : ℕ) → P x ≡ k + 0 → ((i n : ℕ) → slice_get ys i ≡ Some n → P n ≡ j + i) → k < j → AllByRecursion (λ y. (x == y) ≡ false) ys
-      apart [] j own at h = tt
-      apart (y ∷ ys) j own at h = (differ y (λ same. let there = at 0 y refl in let here = ap P same in omega (arith, own, there, here, h)), apart ys (suc j) own (λ i n e. let here = at (suc i) n e in omega (arith, here)) (omega (arith, h)))
-        where
-          differ : (y : ℕ) → x ≢ y → (x == y) ≡ false
-          differ y other = grind (arith, nat_tests, other)
-
--- a number among those in front stands at one of their positions
-pub place_of : (xs : List ℕ) (c n : ℕ) → IsTrue (list_any (λ m. n == m) (take c xs)) → (i : ℕ) × ((i < c) × (slice_get xs i ≡ Some n))
-place_of xs zero n h = absurd (true≢false (sym h))
-place_of [] (suc c) n h = absurd (true≢false (sym h))
-place_of (x ∷ xs) (suc c) n h = by (n == x) refl h (place_of xs c n)
-  where
-    by : (b : Bool) → (n == x) ≡ b → IsTrue (b || list_any (λ m. n == m) (take c xs)) → (IsTrue (list_any (λ m. n == m) (take c xs)) → (i : ℕ) × ((i < c) × (slice_get xs i ≡ Some n))) → (i : ℕ) × ((i < suc c) × (slice_get (x ∷ xs) i ≡ Some n))
-    by true e h rest = (0, (omega arith, grind (arith, nat_tests, e)))
-    by false e h rest = let there = rest h in (suc there.0, (omega (arith, there.1.0), there.1.1))
-
-pub among_front : (xs : List ℕ) (c i n : ℕ) → i < c → slice_get xs i ≡ Some n → IsTrue (list_any (λ m. n == m) (take c xs))
-among_front xs zero i n h e = absurd (omega (arith, h))
-among_front [] (suc c) i n h e = absurd (none-some n e)
-among_front (x ∷ xs) (suc c) zero n h e = ap (λ b. b || list_any (λ m. n == m) (take c xs)) (let same = same_Some x n e in let here : (n == x) ≡ true = grind (arith, nat_tests, same) in here)
-among_front (x ∷ xs) (suc c) (suc i) n h e = or_right (n == x) _ (among_front xs c i n (omega (arith, h)) e)
-  where
-    or_right : (a b : Bool) → IsTrue b → IsTrue (a || b)
-    or_right true b h = refl
-    or_right false b h = h
-
-front_at : (xs : List ℕ) (c i n : ℕ) → slice_get (take c xs) i ≡ Some n → slice_get xs i ≡ Some n
-front_at xs zero i n e = absurd (none-some n e)
-front_at [] (suc c) i n e = e
-front_at (x ∷ xs) (suc c) zero n e = e
-front_at (x ∷ xs) (suc c) (suc i) n e = front_at xs c i n e
-
 -- those in front of a row are the numbers in the group
 pub front_are : (g : Grouped) {seats : List Seat} {rows : List Row} (is : IsSeating seats rows) (group : ℕ) {row : Row} → slice_get rows group ≡ Some row
     → map (λ (s : Seat). s.group) seats ≡ g.homes → map (is_seated_in rows) seats ≡ g.present → AreNumbersOf g group (take row.count row.numbers.items)
-front_are g {seats} {rows} is group {row} found homes present = record {
-  distinct = placed_apart (position_at seats) (take row.count row.numbers.items) 0 (λ i n e. let here = is.seated.placed group i n (in_row i ∙ front_at row.numbers.items row.count i n e) in omega (arith, here));
-  members = λ n h. let there = place_of row.numbers.items row.count n h in member n there.0 there.1.0 there.1.1;
-  all = λ n is_in. all n is_in.0 is_in.1;
-}
+front_are g {seats} {rows} is group {row} found homes present = subst (λ t. AreNumbersOf t group front) (λ i. record { homes = homes i; present = present i; rooms = g.rooms }) (record {
+  distinct = IsDistinct-from_apart (λ (a b : ℕ). a == b) front (λ i j d less within.
+      let here = is.seated.placed group i _ (read i d (omega arith)) in
+      let there = is.seated.placed group j _ (read j d within) in
+      apart (position_at seats) i j _ _ here there less);
+  members = λ n h. let there = Any-from_list_any (λ m. n == m) front h in member n there.0 there.1 there.2 there.3 there.4;
+  all = λ n is_in. all n (sym (slice_get-map (λ (s : Seat). s.group) seats n) ∙ is_in.0) is_in.1;
+})
   where
-    in_row : (i : ℕ) → number_at rows group i ≡ slice_get row.numbers.items i
-    in_row i = ap (option_and_then (λ (r : Row). slice_get r.numbers.items i)) found
+    front : List ℕ
+    front = take row.count row.numbers.items
 
-    home_is : (n : ℕ) → home_at seats n ≡ slice_get g.homes n
-    home_is n = sym (slice_get-map (λ (s : Seat). s.group) seats n) ∙ ap (λ l. slice_get l n) homes
+    len : length (take row.count row.numbers.items) ≡ row.count
+    len = length-take-le row.count row.numbers.items (is.counted group row found)
 
-    count_is : count_at rows group ≡ row.count
-    count_is = ap (λ r. option_map_or (λ (r : Row). r.count) r 0) found
+    read : (i d : ℕ) → i < length (take row.count row.numbers.items) → number_at rows group i ≡ Some (get_or (take row.count row.numbers.items) i d)
+    read i d within =
+        let most = is.counted group row found in
+        ap (option_and_then (λ (r : Row). slice_get r.numbers.items i)) found ∙ slice_get-get_or row.numbers.items i d (omega (arith, len))
+        ∙ ap (λ n. Some n) (sym (get_or-take row.count row.numbers.items i d (omega (arith, len))))
 
-    present_is : (n : ℕ) → home_at seats n ≡ Some group → is_marked g.present n ≡ nat_lt (position_at seats n) row.count
-    present_is n home = ap (λ l. is_marked l n) (sym present) ∙ grind (arith, nat_tests, slice_get-map (is_seated_in rows) seats n, home, found)
+    apart : (position : ℕ → ℕ) (i j a b : ℕ) → position a ≡ i → position b ≡ j → i < j → (a == b) ≡ false
+    apart position i j a b here there less = grind (arith, nat_tests, here, there, less)
 
-    member : (n i : ℕ) → i < row.count → slice_get row.numbers.items i ≡ Some n → IsIn g n group
-    member n i less at =
-        let home = is.seated.homed group i n (in_row i ∙ at) in
-        let place = is.seated.placed group i n (in_row i ∙ at) in
-        let there : nat_lt (position_at seats n) row.count ≡ true = grind (arith, nat_tests, less, place) in
-        (sym (home_is n) ∙ home, present_is n home ∙ there)
+    member : (n i m : ℕ) → i < length (take row.count row.numbers.items) → get_or (take row.count row.numbers.items) i m ≡ m → (n == m) ≡ true → IsIn (record { homes = map (λ (s : Seat). s.group) seats; present = map (is_seated_in rows) seats; rooms = g.rooms }) n group
+    member n i m within at same =
+        let is_n : get_or (take row.count row.numbers.items) i m ≡ n = grind (arith, nat_tests, at, same) in
+        let there = read i m within ∙ ap (λ n. Some n) is_n in
+        let home = is.seated.homed group i n there in
+        let place = is.seated.placed group i n there in
+        (slice_get-map (λ (s : Seat). s.group) seats n ∙ home, grind (arith, nat_tests, slice_get-map (is_seated_in rows) seats n, home, place, found, len, within))
 
-    all : (n : ℕ) → slice_get g.homes n ≡ Some group → IsTrue (is_marked g.present n) → IsTrue (list_any (λ m. n == m) (take row.count row.numbers.items))
+    all : (n : ℕ) → home_at seats n ≡ Some group → IsTrue (is_marked (map (is_seated_in rows) seats) n) → IsTrue (list_any (λ m. n == m) (take row.count row.numbers.items))
     all n home marked =
-        let own = home_is n ∙ home in
-        let there = sym (present_is n own) ∙ marked in
-        let less : position_at seats n < row.count = grind (arith, nat_tests, there) in
-        among_front row.numbers.items row.count (position_at seats n) n less (sym (in_row (position_at seats n)) ∙ is.seated.there n group own)
+        let less : position_at seats n < length (take row.count row.numbers.items) = grind (arith, nat_tests, slice_get-map (is_seated_in rows) seats n, home, found, len, marked) in
+        let there = same_Some _ _ (sym (is.seated.there n group home) ∙ read (position_at seats n) n less) in
+        list_any_at (λ m. n == m) (take row.count row.numbers.items) (position_at seats n) n less (eq-eqb n _ there)
 
 -- ---- a number comes, or leaves
 

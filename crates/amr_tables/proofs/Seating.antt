@@ -1,11 +1,12 @@
 -- Numbers that change places with others of their group, and what that changes.
-use Rattle.std.proofs.Common.{◌≡◌, ℕ, suc, zero, ◌<◌, ◌≤◌, cond, Option, Some, None, List, [], ◌∷◌, length, map, slice_set, refl, sym, ap, ◌∙◌, arith}
+use Rattle.std.proofs.Common.{◌≡◌, ℕ, ◌<◌, ◌≤◌, cond, Option, Some, None, List, length, map, slice_set, sym, ap, ◌∙◌, arith}
 use Rattle.std.specs.Prelude.{◌==◌, slice_get, option_map, option_and_then}
 use Rattle.std.specs.Option.{option_map_or}
 use Rattle.std.proofs.lemmas.Bool.Decides.{nat_tests}
-use Rattle.std.proofs.lemmas.Option.{same_Some, slice_get_within, get_or_from_slice_get, option_and_then_some}
+use Rattle.std.proofs.lemmas.Grind.{get_or-set_at}
+use Rattle.std.proofs.lemmas.Option.{slice_get-get_or, slice_get_past, same_Some, slice_get_within, get_or_from_slice_get, option_and_then_some}
 use Rattle.std.proofs.Math.Seq.{map-set_same}
-use Rattle.std.proofs.lemmas.List.{length-set}
+use Rattle.std.proofs.lemmas.List.{length-set, get_or-set_other}
 use Rattle.amr_tables.specs.declared.grouped.Seat.{Seat}
 use Rattle.amr_tables.specs.declared.grouped.Row.{Row}
 use Rattle.amr_tables.specs.Seats.{home_at, position_at, number_at, count_at, Seated, IsSeating}
@@ -38,11 +39,7 @@ joined {after = after} n g p l none free eh ep ea = record {
 -- ---- lists
 
 pub get_set : {X : Type 0} (xs : List X) (n : ℕ) (x : X) → n < length xs → (k : ℕ) → slice_get (slice_set xs n x) k ≡ cond (k == n) (Some x) (slice_get xs k)
-get_set [] n x h k = absurd (omega arith)
-get_set (y ∷ xs) zero x h zero = refl
-get_set (y ∷ xs) zero x h (suc k) = grind (arith, nat_tests)
-get_set (y ∷ xs) (suc n) x h zero = grind (arith, nat_tests)
-get_set (y ∷ xs) (suc n) x h (suc k) = let rest = get_set xs n x (omega arith) k in grind (arith, nat_tests, rest)
+get_set xs n x h k = grind (arith, nat_tests, slice_get-get_or (slice_set xs n x) k x, slice_get-get_or xs k x, slice_get_past (slice_set xs n x) k, slice_get_past xs k, length-set xs n x, get_or-set_at xs n k x x, get_or-set_other xs n k x x, h)
 
 -- ---- a number gets another position
 

@@ -1,19 +1,12 @@
 -- The marks of places, by the stamps beside their values.
-use Rattle.std.proofs.Common.{◌≡◌, ℕ, zero, suc, ◌+◌, ◌<◌, Bool, true, false, nat_eq, List, [], ◌∷◌, Option, map, length, refl, sym, ap, ◌∙◌, arith, slice_set, slice_index_or, get_or}
+use Rattle.std.proofs.Common.{◌≡◌, ℕ, suc, ◌+◌, ◌<◌, Bool, true, false, nat_eq, List, [], ◌∷◌, Option, map, length, refl, sym, ap, ◌∙◌, arith, slice_set, get_or}
 use Rattle.std.specs.List.{All}
-use Rattle.std.proofs.lemmas.List.{map-set}
+use Rattle.std.proofs.lemmas.List.{map-set, get_or-set_other, length-set}
+use Rattle.std.proofs.lemmas.Grind.{get_or-set_at}
+use Rattle.std.proofs.lemmas.Simd.{map-map}
 use Rattle.std.proofs.lemmas.Bool.Decides.{nat_tests}
 use Rattle.amr_tables.specs.Places.{Places}
 use Rattle.amr_tables.specs.declared.cells.Cell.{Cell}
-
--- a stamp below the present one is no mark
-none_at : (present stamp : ℕ) → stamp < present → nat_eq stamp present ≡ false
-none_at present stamp h = grind (arith, nat_tests)
-
--- what the marks were counts no more
-unmarked : {A B : Type 0} (f : A → B) (xs : List A) → map {B = Bool} (λ _. false) (map f xs) ≡ map (λ _. false) xs
-unmarked f [] = refl
-unmarked f (x ∷ xs) = λ i. false ∷ unmarked f xs i
 
 module _ {V : Type 0} where
   abbrev value_of : Cell V → Option V
@@ -31,11 +24,6 @@ module _ {V : Type 0} where
   abbrev pub places_of : ℕ → List (Cell V) → Places V
   places_of present cells = record { values = values cells; marks = marks present cells }
 
-  pub kept_values : (cells : List (Cell V)) (n : ℕ) (cell : Cell V) (stamp : ℕ) → cell ≡ slice_index_or cells n cell → values (slice_set cells n (record { value = cell.value; stamp = stamp })) ≡ values cells
-  kept_values [] n cell stamp is = refl
-  kept_values (c ∷ cells) zero cell stamp is = ap (λ (x : Cell V). x.value ∷ values cells) is
-  kept_values (c ∷ cells) (suc n) cell stamp is = ap (λ vs. c.value ∷ vs) (kept_values cells n cell stamp is)
-
   -- a value is set, and its place is marked
   pub places_swapped : (present : ℕ) (cells : List (Cell V)) (n : ℕ) (v : Option V) → places_of present (slice_set cells n (record { value = v; stamp = present })) ≡ record { values = slice_set (values cells) n v; marks = slice_set (marks present cells) n true }
   places_swapped present cells n v =
@@ -49,17 +37,16 @@ module _ {V : Type 0} where
   pub places_cleared : (present : ℕ) (cells : List (Cell V)) → All (λ (cell : Cell V). cell.stamp < present) cells → marks present cells ≡ map (λ _. false) cells
   places_cleared present [] h = refl
   places_cleared present (cell ∷ cells) h =
-      λ i. none_at present cell.stamp (h 0 cell (omega arith)) i ∷ places_cleared present cells (λ k d w. h (suc k) d (omega arith)) i
+      let below : cell.stamp < present = h 0 cell (omega arith) in
+      let none : nat_eq cell.stamp present ≡ false = grind (arith, nat_tests, below) in
+      λ i. none i ∷ places_cleared present cells (λ k d w. h (suc k) d (omega arith)) i
 
   pub none_marked : (present former : ℕ) (cells old : List (Cell V)) → All (λ (cell : Cell V). cell.stamp < present) cells → values cells ≡ values old → marks present cells ≡ map (λ _. false) (marks former old)
   none_marked present former cells old below same =
-      places_cleared present cells below ∙ sym (unmarked value_of cells)
-      ∙ ap (map {B = Bool} (λ _. false)) same ∙ unmarked value_of old ∙ sym (unmarked (is_stamped former) old)
+      places_cleared present cells below ∙ sym (map-map (λ _. false) value_of cells) ∙ ap (map {B = Bool} (λ _. false)) same
+      ∙ map-map (λ _. false) value_of old ∙ sym (map-map (λ _. false) (is_stamped former) old)
 
   -- one stamp more is wiped
   pub wiped_more : (cells : List (Cell V)) (n : ℕ) (wiped : Cell V) → wiped.stamp ≡ 0 → ((k : ℕ) (d : Cell V) → k < n → k < length cells → (get_or cells k d).stamp ≡ 0) → (k : ℕ) (d : Cell V) → k < n + 1 → k < length (slice_set cells n wiped) → (get_or (slice_set cells n wiped) k d).stamp ≡ 0
-  wiped_more [] n wiped is h k d w l = absurd (omega arith)
-  wiped_more (c ∷ cells) zero wiped is h zero d w l = is
-  wiped_more (c ∷ cells) zero wiped is h (suc k) d w l = absurd (omega arith)
-  wiped_more (c ∷ cells) (suc n) wiped is h zero d w l = h zero d (omega arith) (omega arith)
-  wiped_more (c ∷ cells) (suc n) wiped is h (suc k) d w l = wiped_more cells n wiped is (λ k d w l. h (suc k) d (omega arith) (omega arith)) k d (omega arith) (omega arith)
+  wiped_more cells n wiped is h k d w l =
+      grind (arith, get_or-set_at cells n k wiped d, get_or-set_other cells n k wiped d, length-set cells n wiped, h k d, is, w, l)

@@ -1,5 +1,6 @@
-use Rattle.std.proofs.Common.{◌∙◌, length-set, sym, arith, refl}
-use Rattle.amr_tables.proofs.Stamping.{kept_values, wiped_more}
+use Rattle.std.proofs.Common.{◌∙◌, length-set, ap, sym, arith, refl}
+use Rattle.std.proofs.Math.Seq.{map-set_same}
+use Rattle.amr_tables.proofs.Stamping.{wiped_more}
 use Rattle.amr_tables.proofs.cells.wipe.Goals as goal
 
 pub loop-place-init : goal.loop-place-init
@@ -15,7 +16,7 @@ loop-place-preserved g c =
     let n = c.loop-place.place in
     let cell = c.index_mut.result.now in
     record {
-      values = kept_values cells n cell 0 c.index_mut.ensures.value ∙ c.loop-place.invariant.values;
+      values = map-set_same (λ x. x.value) cells n (record cell { stamp = 0 }) cell (ap (λ x. x.value) c.index_mut.ensures.value) ∙ c.loop-place.invariant.values;
       count = length-set cells n (record cell { stamp = 0 }) ∙ c.loop-place.invariant.count;
       wiped = wiped_more cells n (record cell { stamp = 0 }) refl c.loop-place.invariant.wiped;
     }
