@@ -14,31 +14,20 @@ module _ {E : Type 0} where
   records_before (n ∷ sizes) xs ys fits =
       let all = sum_by-cons (λ x. x) n sizes in
       let within : n ≤ length xs = omega (arith, all) in
-      let left = length-drop n xs in
-      ap (λ first. first ∷ records_of sizes (drop n (xs ++ ys))) (take-append-le n xs ys within)
-      ∙ ap (λ rest. take n xs ∷ records_of sizes rest) (drop-append-le n xs ys within)
-      ∙ ap (λ records. take n xs ∷ records) (records_before sizes (drop n xs) ys (omega (arith, all, left)))
+      cc (take-append-le n xs ys within, drop-append-le n xs ys within, records_before sizes (drop n xs) ys (omega (arith, all, length-drop n xs)))
 
   pub records_before_last : (sizes : List ℕ) (opened : ℕ) (xs : List E) (x : E) → opened ≡ sum sizes → 0 < length (drop opened (xs ++ x ∷ [])) → records_of sizes (xs ++ x ∷ []) ≡ records_of sizes xs
   records_before_last sizes opened xs x at some_open =
-      let open_count = length-drop opened (xs ++ x ∷ []) in
-      let count = length_push xs x in
-      records_before sizes xs (x ∷ []) (omega (arith, at, some_open, open_count, count))
+      records_before sizes xs (x ∷ []) (omega (arith, at, some_open, length-drop opened (xs ++ x ∷ []), length_push xs x))
 
   pub one_more_record : (sizes : List ℕ) (n : ℕ) (xs : List E) → records_of (sizes ++ n ∷ []) xs ≡ records_of sizes xs ++ take n (drop (sum sizes) xs) ∷ []
   unfolding records_of
   one_more_record [] n xs = refl
-  one_more_record (m ∷ sizes) n xs =
-      ap (λ records. take m xs ∷ records) (one_more_record sizes n (drop m xs))
-      ∙ ap (λ rest. take m xs ∷ (records_of sizes (drop m xs) ++ take n rest ∷ [])) (drop-drop (sum sizes) m xs)
-      ∙ ap (λ start. take m xs ∷ (records_of sizes (drop m xs) ++ take n (drop start xs) ∷ [])) (sym (sum_by-cons (λ x. x) m sizes))
+  one_more_record (m ∷ sizes) n xs = cc (one_more_record sizes n (drop m xs), drop-drop (sum sizes) m xs, sum_by-cons (λ x. x) m sizes)
 
   -- The open record becomes the last closed one.
   pub closed_last : (sizes : List ℕ) (opened : ℕ) (xs : List E) → opened ≡ sum sizes → records_of (sizes ++ (length xs - opened) ∷ []) xs ≡ records_of sizes xs ++ drop opened xs ∷ []
-  closed_last sizes opened xs at =
-      one_more_record sizes (length xs - opened) xs
-      ∙ ap (λ start. records_of sizes xs ++ take (length xs - opened) (drop start xs) ∷ []) (sym at)
-      ∙ ap (λ last. records_of sizes xs ++ last ∷ []) (take_rest xs opened)
+  closed_last sizes opened xs at = cc (one_more_record sizes (length xs - opened) xs, take_rest xs opened)
 
   -- The last closed record takes all that is left, if the open one is empty.
   pub reopened_last : (sizes : List ℕ) (n opened : ℕ) (xs : List E) → opened ≡ sum (sizes ++ n ∷ []) → drop opened xs ≡ [] → records_of (sizes ++ n ∷ []) xs ≡ records_of sizes xs ++ drop (opened - n) xs ∷ []
@@ -46,20 +35,14 @@ module _ {E : Type 0} where
       let total = sum_by_push (λ k. k) sizes n in
       let start : sum sizes ≡ opened - n = omega (arith, at, total) in
       let all = sym (length-drop opened xs) ∙ ap length none_open in
-      let left = length-drop (opened - n) xs in
-      one_more_record sizes n xs
-      ∙ ap (λ start. records_of sizes xs ++ take n (drop start xs) ∷ []) start
-      ∙ ap (λ last. records_of sizes xs ++ last ∷ []) (take_all n (drop (opened - n) xs) (omega (arith, left, all, at, total)))
+      cc (one_more_record sizes n xs, start, take_all n (drop (opened - n) xs) (omega (arith, length-drop (opened - n) xs, all, at, total)))
 
   pub lengths_are_sizes : (sizes : List ℕ) (xs : List E) → sum sizes ≤ length xs → map length (records_of sizes xs) ≡ sizes
   unfolding records_of
   lengths_are_sizes [] xs fits = refl
   lengths_are_sizes (n ∷ sizes) xs fits =
       let all = sum_by-cons (λ x. x) n sizes in
-      let within : n ≤ length xs = omega (arith, all) in
-      let left = length-drop n xs in
-      ap (λ m. m ∷ map length (records_of sizes (drop n xs))) (length-take-le n xs within)
-      ∙ ap (λ rest. n ∷ rest) (lengths_are_sizes sizes (drop n xs) (omega (arith, all, left)))
+      cc (length-take-le n xs (omega (arith, all)), lengths_are_sizes sizes (drop n xs) (omega (arith, all, length-drop n xs)))
 
   pub count_of_records : (sizes : List ℕ) (xs : List E) → length (records_of sizes xs) ≡ length sizes
   unfolding records_of
@@ -68,6 +51,4 @@ module _ {E : Type 0} where
 
   pub size_of_record : (sizes : List ℕ) (xs : List E) (i n : ℕ) → i < length sizes → sum sizes ≤ length xs → n ≡ get_or sizes i n → option_map length (slice_get (records_of sizes xs) i) ≡ Some n
   size_of_record sizes xs i n within fits is =
-      sym (slice_get-map length (records_of sizes xs) i)
-      ∙ ap (λ sizes. slice_get sizes i) (lengths_are_sizes sizes xs fits)
-      ∙ slice_get_read sizes (length sizes) i n refl within is
+      cc (slice_get-map length (records_of sizes xs) i, lengths_are_sizes sizes xs fits, slice_get_read sizes (length sizes) i n refl within is)
