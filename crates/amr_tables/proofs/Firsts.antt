@@ -102,27 +102,24 @@ fewer_values (Some x ∷ moments) zero some = omega arith
 fewer_values (None ∷ moments) (suc n) some = fewer_values moments n some
 fewer_values (Some x ∷ moments) (suc n) some = let less = fewer_values moments n some in omega (arith, less)
 
-module _ (e : Earliest) (n : ℕ) (wins : first_of e.rest ≡ Some n) (next : Tournament) (set : next.moments ≡ slice_set e.rest.moments n None) where
-  abbrev without : Earliest
-  without = record e { rest = next }
-
-  pub winner_leaves_fewer : length (values_of next.moments) < length (values_of e.rest.moments)
+module _ (e u : Earliest) (n : ℕ) (queue : u.queue ≡ e.queue) (set : u.rest.moments ≡ slice_set e.rest.moments n None) (wins : first_of e.rest ≡ Some n) where
+  pub winner_leaves_fewer : length (values_of u.rest.moments) < length (values_of e.rest.moments)
   winner_leaves_fewer = rw set (fewer_values e.rest.moments n (first_wins e.rest n wins).1)
 
-  now : (k : ℕ) → tournament.moment_at next k ≡ (if k == n then None else tournament.moment_at e.rest k)
+  now : (k : ℕ) → tournament.moment_at u.rest k ≡ (if k == n then None else tournament.moment_at e.rest k)
   now k = ap (λ l. value_at l k) set ∙ grind (arith, nat_tests, value_set e.rest.moments n None, value_apart e.rest.moments n k None, first_within e.rest n wins)
 
-  pub held_without_winner : (k : ℕ) → IsHeld without k → IsHeld e k
-  held_without_winner k (m, stands) = (m, ⊎_map (λ h. h) (λ h. stood (tournament.moment_at e.rest k) (sym (now k) ∙ h)) stands)
+  pub held_without_winner : (k : ℕ) → IsHeld u k → IsHeld e k
+  held_without_winner k (m, stands) = (m, ⊎_map (subst (λ l. StandsIn l (record { moment = m; number = k })) queue) (λ h. stood (tournament.moment_at e.rest k) (sym (now k) ∙ h)) stands)
     where
       stood : (x : Option ℕ) → (if k == n then None else x) ≡ Some m → x ≡ Some m
       stood x is = grind (arith, is)
 
-  pub winner_leaves : (rank : ℕ → ℕ → Ordering) (moments : ℕ → Option ℕ) → tournament.moment_at e.rest n ≢ moments n → IsTournament rank next → AreKept rank moments e → AreKept rank moments without
+  pub winner_leaves : (rank : ℕ → ℕ → Ordering) (moments : ℕ → Option ℕ) → tournament.moment_at e.rest n ≢ moments n → IsTournament rank u.rest → AreKept rank moments e → AreKept rank moments u
   winner_leaves rank moments outdated played kept = record {
-    queue = kept.queue;
+    queue = subst (IsQueue rank) (sym queue) kept.queue;
     rest = played;
-    stands = λ s at. ⊎_map (λ h. h) (λ h. now s.number ∙ stays (tournament.moment_at e.rest) s.number s.moment outdated h at) (kept.stands s at);
+    stands = λ s at. ⊎_map (subst (λ l. StandsIn l s) (sym queue)) (λ h. now s.number ∙ stays (tournament.moment_at e.rest) s.number s.moment outdated h at) (kept.stands s at);
   }
     where
       stays : (were : ℕ → Option ℕ) (k m : ℕ) → were n ≢ moments n → were k ≡ Some m → moments k ≡ Some m → (if k == n then None else were k) ≡ Some m

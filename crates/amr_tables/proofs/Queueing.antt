@@ -11,7 +11,7 @@ use Rattle.std.proofs.lemmas.Option.{same_Some}
 use Rattle.std.specs.declared.cmp.Ordering.{Ordering}
 use Rattle.amr_tables.specs.declared.earliest.NumberedMoment.{NumberedMoment}
 use Rattle.amr_tables.specs.Places.{value_at}
-use Rattle.amr_tables.specs.Tournament.{Tournament, IsTournament}
+use Rattle.amr_tables.specs.Tournament.{Tournament, moment_at, IsTournament}
 use Rattle.amr_tables.specs.Earliest.{Earliest, changed_back, StandsIn, Stands, IsHeld, IsCurrent, IsOutdated, AreAmong, are_in_order, IsQueue, AreKept}
 use Rattle.amr_tables.proofs.Placing.{value_set, value_apart}
 use Rattle.amr_tables.proofs.Firsts.{apart_from}
@@ -72,31 +72,25 @@ module _ (rank : ℕ → ℕ → Ordering) where
 
 -- ---- an end that isn't current leaves
 
-module _ (moments : ℕ → Option ℕ) (rest : Tournament) (rank : ℕ → ℕ → Ordering) where
-  abbrev with_queue : List NumberedMoment → Earliest
-  with_queue queue = record { queue = queue; rest = rest }
-
-  leaves : (fewer : ℕ → Option ℕ) → AreAmong fewer moments → (queue left : List NumberedMoment) (s : NumberedMoment) → IsQueue rank left → (IsCurrent moments s → ⊥) → ((x : NumberedMoment) → StandsIn queue x → (s ≡ x) ⊎ StandsIn left x)
-      → AreKept rank fewer (with_queue queue) → AreKept rank fewer (with_queue left)
-  leaves fewer among queue left s sorted outdated stood kept = record {
+module _ (moments : ℕ → Option ℕ) (rank : ℕ → ℕ → Ordering) {e u : Earliest} (rest : u.rest ≡ e.rest) where
+  leaves : (fewer : ℕ → Option ℕ) → AreAmong fewer moments → (s : NumberedMoment) → IsQueue rank u.queue → (IsCurrent moments s → ⊥) → ((x : NumberedMoment) → StandsIn e.queue x → (s ≡ x) ⊎ StandsIn u.queue x) → AreKept rank fewer e → AreKept rank fewer u
+  leaves fewer among s sorted outdated stood kept = record {
     queue = sorted;
-    rest = kept.rest;
-    stands = λ x at. ⊎_map (λ h. ⊎_elim (λ same. absurd (outdated (subst (IsCurrent moments) (sym same) (among x at)))) (λ h. h) (stood x h)) (λ h. h) (kept.stands x at);
+    rest = subst (IsTournament rank) (sym rest) kept.rest;
+    stands = λ x at. ⊎_map (λ h. ⊎_elim (λ same. absurd (outdated (subst (IsCurrent moments) (sym same) (among x at)))) (λ h. h) (stood x h)) (λ h. ap (λ (t : Tournament). moment_at t x.number) rest ∙ h) (kept.stands x at);
   }
 
-  pub last_leaves : (fewer : ℕ → Option ℕ) → AreAmong fewer moments → (queue left : List NumberedMoment) (r : Option NumberedMoment) → queue ≡ left ++ option_to_list r → IsOutdated moments (last_or None queue)
-      → AreKept rank fewer (with_queue queue) → AreKept rank fewer (with_queue left)
-  last_leaves fewer among queue left None is out kept = subst (λ l. AreKept rank fewer (with_queue l)) (is ∙ append-nil left) kept
-  last_leaves fewer among queue left (Some s) is out kept =
-      let all = subst (λ l. AreKept rank fewer (with_queue l)) is kept in
-      leaves fewer among (left ++ s ∷ []) left s (queue_init rank left s all.queue) (subst (IsOutdated moments) (ap (last_or None) is ∙ last_is None left s) out) (stands_before left s) all
+  pub last_leaves : (fewer : ℕ → Option ℕ) → AreAmong fewer moments → (r : Option NumberedMoment) → e.queue ≡ u.queue ++ option_to_list r → IsOutdated moments (last_or None e.queue) → AreKept rank fewer e → AreKept rank fewer u
+  last_leaves fewer among None is out kept = subst (AreKept rank fewer) (λ i. record { queue = (is ∙ append-nil u.queue) i; rest = sym rest i }) kept
+  last_leaves fewer among (Some s) is out kept =
+      leaves fewer among s (queue_init rank u.queue s (subst (IsQueue rank) is kept.queue)) (subst (IsOutdated moments) (ap (last_or None) is ∙ last_is None u.queue s) out)
+      (λ x h. stands_before u.queue s x (subst (λ l. StandsIn l x) is h)) kept
 
-  pub first_leaves : (queue left : List NumberedMoment) (r : Option NumberedMoment) → queue ≡ option_to_list r ++ left → IsOutdated moments (slice_get queue 0)
-      → AreKept rank moments (with_queue queue) → AreKept rank moments (with_queue left)
-  first_leaves queue left None is out kept = subst (λ l. AreKept rank moments (with_queue l)) is kept
-  first_leaves queue left (Some s) is out kept =
-      let all = subst (λ l. AreKept rank moments (with_queue l)) is kept in
-      leaves moments (λ x at. at) (s ∷ left) left s (queue_tail rank s left all.queue) (subst (λ (l : List NumberedMoment). IsOutdated moments (slice_get l 0)) is out) (λ x h. h) all
+  pub first_leaves : (r : Option NumberedMoment) → e.queue ≡ option_to_list r ++ u.queue → IsOutdated moments (slice_get e.queue 0) → AreKept rank moments e → AreKept rank moments u
+  first_leaves None is out kept = subst (AreKept rank moments) (λ i. record { queue = is i; rest = sym rest i }) kept
+  first_leaves (Some s) is out kept =
+      leaves moments (λ x at. at) s (queue_tail rank s u.queue (subst (IsQueue rank) is kept.queue)) (subst (λ (l : List NumberedMoment). IsOutdated moments (slice_get l 0)) is out)
+      (λ x h. subst (λ l. StandsIn l x) is h) kept
 
 pub stood_last : (queue left : List NumberedMoment) (r : Option NumberedMoment) → queue ≡ left ++ option_to_list r → (s : NumberedMoment) → StandsIn left s → StandsIn queue s
 stood_last queue left None is s h = subst (λ l. StandsIn l s) (sym (is ∙ append-nil left)) h
@@ -108,47 +102,45 @@ stood_first queue left (Some x) is s h = subst (λ l. StandsIn l s) (sym is) (in
 
 -- ---- a moment joins
 
-module _ (moments : ℕ → Option ℕ) (s : NumberedMoment) (now : IsCurrent moments s) where
-  abbrev before : ℕ → Option ℕ
-  before = changed_back moments s.number None
+module _ (moments : ℕ → Option ℕ) (s : NumberedMoment) (now : IsCurrent moments s) (e : Earliest) where
+  -- it stands now, and so do those of other numbers
+  joins : (rank : ℕ → ℕ → Ordering) (u : Earliest) → IsQueue rank u.queue → IsTournament rank u.rest → Stands u s → ((x : NumberedMoment) → x.number ≢ s.number → Stands e x → Stands u x) → AreKept rank (changed_back moments s.number None) e → AreKept rank moments u
+  joins rank u sorted played here stood kept = record { queue = sorted; rest = played; stands = λ x at. by x at (cases_eq x.number s.number) }
+    where
+      by : (x : NumberedMoment) → IsCurrent moments x → (x.number ≡ s.number) ⊎ (x.number ≢ s.number) → Stands u x
+      by x at (inl same) =
+          let moment : s.moment ≡ x.moment = same_Some s.moment x.moment (sym now ∙ ap moments (sym same) ∙ at) in
+          subst (Stands u) (λ i. record { moment = moment i; number = sym same i }) here
+      by x at (inr apart) = stood x apart (kept.stands x (apart_from moments s.number None x.number apart ∙ at))
 
-  module _ (queue : List NumberedMoment) (rest : Tournament) (rank : ℕ → ℕ → Ordering) where
-    abbrev was : Earliest
-    was = record { queue = queue; rest = rest }
+  -- ---- at the end of the queue
 
-    -- it stands now, and so do those of other numbers
-    joins : (u : Earliest) → IsQueue rank u.queue → IsTournament rank u.rest → Stands u s → ((x : NumberedMoment) → x.number ≢ s.number → Stands was x → Stands u x) → AreKept rank before was → AreKept rank moments u
-    joins u sorted played here stood kept = record { queue = sorted; rest = played; stands = λ x at. by x at (cases_eq x.number s.number) }
-      where
-        by : (x : NumberedMoment) → IsCurrent moments x → (x.number ≡ s.number) ⊎ (x.number ≢ s.number) → Stands u x
-        by x at (inl same) =
-            let moment : s.moment ≡ x.moment = same_Some s.moment x.moment (sym now ∙ ap moments (sym same) ∙ at) in
-            subst (Stands u) (λ i. record { moment = moment i; number = sym same i }) here
-        by x at (inr apart) = stood x apart (kept.stands x (apart_from moments s.number None x.number apart ∙ at))
+  pub held_last : {u : Earliest} → u ≡ record { queue = e.queue ++ s ∷ []; rest = e.rest } → (n : ℕ) → IsHeld u n → IsHeld e n ⊎ (n ≡ s.number)
+  held_last is n held = by (subst (λ x. IsHeld x n) is held)
+    where
+      by : IsHeld (record { queue = e.queue ++ s ∷ []; rest = e.rest }) n → IsHeld e n ⊎ (n ≡ s.number)
+      by (m, inr h) = inl (m, inr h)
+      by (m, inl h) = ⊎_elim (λ is. inr (ap (λ (x : NumberedMoment). x.number) (sym is))) (λ h. inl (m, inl h)) (stands_before e.queue s _ h)
 
-    -- ---- at the end of the queue
+  pub kept_last : (rank : ℕ → ℕ → Ordering) {u : Earliest} → u ≡ record { queue = e.queue ++ s ∷ []; rest = e.rest } → are_in_order rank (last_or None e.queue) (Some s) ≡ true → AreKept rank (changed_back moments s.number None) e → AreKept rank moments u
+  kept_last rank is order kept = subst (AreKept rank moments) (sym is) (joins rank _ (queue_longer rank e.queue s order kept.queue) kept.rest (inl (stands_last e.queue s)) (λ x apart. ⊎_map (stands_more e.queue s x) (λ h. h)) kept)
 
-    pub held_last : (n : ℕ) → IsHeld (record { queue = queue ++ s ∷ []; rest = rest }) n → IsHeld was n ⊎ (n ≡ s.number)
-    held_last n (m, inr h) = inl (m, inr h)
-    held_last n (m, inl h) = ⊎_elim (λ is. inr (ap (λ (x : NumberedMoment). x.number) (sym is))) (λ h. inl (m, inl h)) (stands_before queue s _ h)
+  -- ---- at the front of the queue
 
-    pub kept_last : are_in_order rank (last_or None queue) (Some s) ≡ true → AreKept rank before was → AreKept rank moments (record { queue = queue ++ s ∷ []; rest = rest })
-    kept_last order kept = joins _ (queue_longer rank queue s order kept.queue) kept.rest (inl (stands_last queue s)) (λ x apart. ⊎_map (stands_more queue s x) (λ h. h)) kept
+  pub kept_first : (rank : ℕ → ℕ → Ordering) {u : Earliest} → u ≡ record { queue = s ∷ e.queue; rest = e.rest } → are_in_order rank (Some s) (slice_get e.queue 0) ≡ true → AreKept rank (changed_back moments s.number None) e → AreKept rank moments u
+  kept_first rank is order kept = subst (AreKept rank moments) (sym is) (joins rank _ (queue_earlier rank s e.queue order kept.queue) kept.rest (inl (inl refl)) (λ x apart. ⊎_map (λ h. inr h) (λ h. h)) kept)
 
-    -- ---- at the front of the queue
+  -- ---- among the rest
 
-    pub kept_first : are_in_order rank (Some s) (slice_get queue 0) ≡ true → AreKept rank before was → AreKept rank moments (record { queue = s ∷ queue; rest = rest })
-    kept_first order kept = joins _ (queue_earlier rank s queue order kept.queue) kept.rest (inl (inl refl)) (λ x apart. ⊎_map (λ h. inr h) (λ h. h)) kept
+  module _ (u : Earliest) (queue : u.queue ≡ e.queue) (set : u.rest.moments ≡ slice_set e.rest.moments s.number (Some s.moment)) (room : s.number < length e.rest.moments) where
+    apart_is : (n : ℕ) → n ≢ s.number → moment_at u.rest n ≡ moment_at e.rest n
+    apart_is n apart = ap (λ l. value_at l n) set ∙ value_apart e.rest.moments s.number n (Some s.moment) apart
 
-    -- ---- among the rest
+    pub held_rest : (n : ℕ) → IsHeld u n → IsHeld e n ⊎ (n ≡ s.number)
+    held_rest n (m, inl h) = inl (m, inl (subst (λ l. StandsIn l (record { moment = m; number = n })) queue h))
+    held_rest n (m, inr h) = ⊎_elim (λ same. inr same) (λ apart. inl (m, inr (sym (apart_is n apart) ∙ h))) (cases_eq n s.number)
 
-    module _ (next : Tournament) (set : next.moments ≡ slice_set rest.moments s.number (Some s.moment)) (room : s.number < length rest.moments) where
-      apart_is : (n : ℕ) → n ≢ s.number → value_at next.moments n ≡ value_at rest.moments n
-      apart_is n apart = ap (λ l. value_at l n) set ∙ value_apart rest.moments s.number n (Some s.moment) apart
-
-      pub held_rest : (n : ℕ) → IsHeld (record { queue = queue; rest = next }) n → IsHeld was n ⊎ (n ≡ s.number)
-      held_rest n (m, inl h) = inl (m, inl h)
-      held_rest n (m, inr h) = ⊎_elim (λ same. inr same) (λ apart. inl (m, inr (sym (apart_is n apart) ∙ h))) (cases_eq n s.number)
-
-      pub kept_rest : IsTournament rank next → AreKept rank before was → AreKept rank moments (record { queue = queue; rest = next })
-      kept_rest played kept = joins _ kept.queue played (inr (ap (λ l. value_at l s.number) set ∙ value_set rest.moments s.number (Some s.moment) room)) (λ x apart. ⊎_map (λ h. h) (λ h. apart_is x.number apart ∙ h)) kept
+    pub kept_rest : (rank : ℕ → ℕ → Ordering) → IsTournament rank u.rest → AreKept rank (changed_back moments s.number None) e → AreKept rank moments u
+    kept_rest rank played kept =
+        joins rank u (subst (IsQueue rank) (sym queue) kept.queue) played (inr (ap (λ l. value_at l s.number) set ∙ value_set e.rest.moments s.number (Some s.moment) room))
+        (λ x apart. ⊎_map (subst (λ l. StandsIn l x) (sym queue)) (λ h. apart_is x.number apart ∙ h)) kept
