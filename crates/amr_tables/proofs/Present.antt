@@ -1,11 +1,11 @@
 -- Which numbers are in their groups, as rows change.
-use Rattle.std.proofs.Common.{◌≡◌, ℕ, suc, zero, not, ◌+◌, ◌-◌, ◌<◌, ◌≤◌, cond, Bool, true, false, IsTrue, Option, Some, None, List, [], ◌∷◌, ◌++◌, length, get_or, map, slice_set, take, refl, sym, ap, subst, ◌∙◌, arith, length-append}
+use Rattle.std.proofs.Common.{◌≡◌, ◌≢◌, ℕ, suc, zero, not, ◌+◌, ◌-◌, ◌<◌, ◌≤◌, cond, Bool, true, false, IsTrue, Option, Some, None, List, [], ◌∷◌, ◌++◌, length, get_or, map, slice_set, take, refl, sym, ap, subst, ◌∙◌, arith, length-append}
 use Rattle.std.specs.Prelude.{◌==◌, nat_lt, slice_get, option_map, option_and_then, unwrap_or}
 use Rattle.std.specs.Option.{option_map_or}
 use Rattle.std.specs.List.{list_any}
 use Rattle.std.proofs.lemmas.Bool.{eq-eqb}
 use Rattle.std.proofs.lemmas.Bool.Decides.{nat_tests}
-use Rattle.std.proofs.lemmas.Option.{same_Some, slice_get-map, slice_get-get_or, slice_get_read, slice_get_past}
+use Rattle.std.proofs.lemmas.Option.{none-some, same_Some, slice_get-map, slice_get-get_or, slice_get_read, slice_get_past}
 use Rattle.std.proofs.lemmas.List.{length-map, length-set, length-take-le, get_or-take}
 use Rattle.std.proofs.lemmas.List.Folds.{Any-from_list_any, list_any_at}
 use Rattle.std.proofs.lemmas.Map.Keys.{IsDistinct-from_apart}
@@ -148,13 +148,13 @@ IsEdge p count q next true = (count ≤ p) × ((q ≡ count) × (next ≡ count 
 IsEdge p count q next false = (p < count) × ((q + 1 ≡ count) × (next ≡ q))
 
 pub edge_is : (p count back on : ℕ) (is_in : Bool) → beq (nat_lt p count) is_in ≡ false → back ≡ bool_byte (not is_in) → on ≡ bool_byte is_in → IsEdge p count (count - back) (count - back + on) is_in
-edge_is p count back on true e b o = let beyond : count ≤ p = grind (arith, nat_tests, e) in (beyond, (omega (arith, b), omega (arith, b, o)))
-edge_is p count back on false e b o = let less : p < count = grind (arith, nat_tests, e) in (less, (omega (arith, b, less), omega (arith, b, o)))
+edge_is p count back on true e b o = let beyond : count ≤ p = grind (arith, nat_tests, e) in omega arith
+edge_is p count back on false e b o = let less : p < count = grind (arith, nat_tests, e) in omega arith
 
 -- both are within the row
 pub edge_within : (p count q next len : ℕ) (is_in : Bool) → IsEdge p count q next is_in → p < len → count ≤ len → (q < len) × (next ≤ len)
-edge_within p count q next len true e within most = let end = e.1.0 in let after = e.1.1 in let beyond = e.0 in (omega (arith, end, beyond, within), omega (arith, after, beyond, within))
-edge_within p count q next len false e within most = let end = e.1.0 in let after = e.1.1 in (omega (arith, end, most), omega (arith, end, after, most))
+edge_within p count q next len true e within most = omega arith
+edge_within p count q next len false e within most = omega arith
 
 module _ {home : ℕ → Option ℕ} {position after : ℕ → ℕ} {at : ℕ → ℕ → Option ℕ} (l : Seated home position at) (n m g q : ℕ) (here : home n ≡ Some g) (there : at g q ≡ Some m)
     (ep : (k : ℕ) → after k ≡ cond (k == n) q (cond (k == m) (position n) (position k))) (count next : ℕ → ℕ) (end : ℕ) (ec : (h : ℕ) → next h ≡ cond (h == g) end (count h)) where
@@ -209,42 +209,33 @@ module _ {seats : List Seat} {rows : List Row} (is : IsSeating seats rows) (n q 
   within : seat.position < length row.numbers.items
   within = standing is n at found
 
-  homes_after : map (λ (s : Seat). s.group) after ≡ map (λ (s : Seat). s.group) seats
-  homes_after = homes_moved first n again at_again q ∙ homes_moved seats m other at_other seat.position
+  bounds : (q < length row.numbers.items) × (changed.count ≤ length row.numbers.items)
+  bounds = edge_within seat.position row.count q changed.count (length row.numbers.items) is_in edge within (is.counted seat.group row found)
 
-  seating_after : IsSeating after next
-  seating_after = record {
-    seated = record {
-      there = λ k h e. seated.there k h (sym (home k) ∙ e);
-      homed = λ h i k e. home k ∙ seated.homed h i k e;
-      placed = seated.placed;
-    };
-    counted = counted_set rows seat.group row changed found (omega (arith, bounds.1, ap length items, length-set row.numbers.items seat.position m, length-set (slice_set row.numbers.items seat.position m) q n)) is.counted;
-  }
-    where
-      bounds : (q < length row.numbers.items) × (changed.count ≤ length row.numbers.items)
-      bounds = edge_within seat.position row.count q changed.count (length row.numbers.items) is_in edge within (is.counted seat.group row found)
+  seated : Seated (home_at seats) (position_at after) (number_at next)
+  seated = exchanged n m seat.group q is.seated group there_now positions
+      (λ h i. number_exchanged rows seat.group row changed found seat.position q n m items within bounds.0 h i
+      ∙ ap (λ p. cond (h == seat.group) (cond (i == q) (Some n) (cond (i == p) (Some m) (number_at rows h i))) (number_at rows h i)) (sym own))
 
-      seated : Seated (home_at seats) (position_at after) (number_at next)
-      seated = exchanged n m seat.group q is.seated group there_now positions
-          (λ h i. number_exchanged rows seat.group row changed found seat.position q n m items within bounds.0 h i
-          ∙ ap (λ p. cond (h == seat.group) (cond (i == q) (Some n) (cond (i == p) (Some m) (number_at rows h i))) (number_at rows h i)) (sym own))
-
-  present_after : (k : ℕ) → is_marked (map (is_seated_in next) after) k ≡ cond (k == n) is_in (is_marked (map (is_seated_in rows) seats) k)
-  present_after k =
-      present_at after next k
-      ∙ ap (λ h. unwrap_or (option_map (λ g. nat_lt (position_at after k) (count_at next g)) h) false) (home k)
-      ∙ by (home_at seats k) refl
-      ∙ ap (cond (k == n) is_in) (sym (present_at seats rows k))
-    where
-      count_is : count_at rows seat.group ≡ row.count
-      count_is = ap (λ r. option_map_or (λ (r : Row). r.count) r 0) found
-
-      by : (h : Option ℕ) → home_at seats k ≡ h → unwrap_or (option_map (λ g. nat_lt (position_at after k) (count_at next g)) h) false ≡ cond (k == n) is_in (unwrap_or (option_map (λ g. nat_lt (position_at seats k) (count_at rows g)) h) false)
-      by None e = grind (arith, nat_tests, e, group)
-      by (Some h) e =
-          moves is.seated n m seat.group q group there_now positions (count_at rows) (count_at next) changed.count (count_set rows seat.group row changed found) is_in
-          (subst (λ (x : ℕ × ℕ). IsEdge x.0 x.1 q changed.count is_in) (λ i. (sym own i, sym count_is i)) edge) k h e
+  -- what is so of each home, or for none, is so of the number's
+  marked : (k : ℕ) (h : Option ℕ) (now former : ℕ → Bool) → (h ≡ None → k ≢ n) → ((g : ℕ) → h ≡ Some g → now g ≡ cond (k == n) is_in (former g)) → unwrap_or (option_map now h) false ≡ cond (k == n) is_in (unwrap_or (option_map former h) false)
+  marked k h now former none some = grind (arith, nat_tests, none, some)
 
   pub is_set_to : IsSetTo n is_in seats after rows next
-  is_set_to = record { seating = seating_after; homes = homes_after; present = present_after }
+  is_set_to = record {
+    seating = record {
+      seated = record {
+        there = λ k h e. seated.there k h (sym (home k) ∙ e);
+        homed = λ h i k e. home k ∙ seated.homed h i k e;
+        placed = seated.placed;
+      };
+      counted = counted_set rows seat.group row changed found (omega (arith, bounds.1, ap length items, length-set row.numbers.items seat.position m, length-set (slice_set row.numbers.items seat.position m) q n)) is.counted;
+    };
+    homes = homes_moved first n again at_again q ∙ homes_moved seats m other at_other seat.position;
+    present = λ k.
+        present_at after next k ∙ ap (λ h. unwrap_or (option_map (λ g. nat_lt (position_at after k) (count_at next g)) h) false) (home k)
+        ∙ marked k (home_at seats k) _ _ (λ none same. none-some seat.group (sym none ∙ ap (home_at seats) same ∙ group))
+        (moves is.seated n m seat.group q group there_now positions (count_at rows) (count_at next) changed.count (count_set rows seat.group row changed found) is_in
+        (subst (λ (x : ℕ × ℕ). IsEdge x.0 x.1 q changed.count is_in) (λ i. (sym own i, ap (λ r. option_map_or (λ (r : Row). r.count) r 0) (sym found) i)) edge) k)
+        ∙ ap (cond (k == n) is_in) (sym (present_at seats rows k));
+  }
