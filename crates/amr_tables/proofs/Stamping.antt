@@ -41,10 +41,13 @@ module _ {V : Type 0} where
       let none : nat_eq cell.stamp present ≡ false = grind (arith, nat_tests, below) in
       λ i. none i ∷ places_cleared present cells (λ k d w. h (suc k) d (omega arith)) i
 
-  pub none_marked : (present former : ℕ) (cells old : List (Cell V)) → All (λ (cell : Cell V). cell.stamp < present) cells → values cells ≡ values old → marks present cells ≡ map (λ _. false) (marks former old)
-  none_marked present former cells old below same =
-      places_cleared present cells below ∙ sym (map-map (λ _. false) value_of cells) ∙ ap (map {B = Bool} (λ _. false)) same
-      ∙ map-map (λ _. false) value_of old ∙ sym (map-map (λ _. false) (is_stamped former) old)
+  pub none_marked : (present former : ℕ) (cells old : List (Cell V)) → All (λ (cell : Cell V). cell.stamp < present) cells → values cells ≡ values old → places_of present cells ≡ record { values = values old; marks = map (λ _. false) (marks former old) }
+  none_marked present former cells old below same = λ i. record { values = same i; marks = unmarked i }
+    where
+      unmarked : marks present cells ≡ map (λ _. false) (marks former old)
+      unmarked =
+          places_cleared present cells below ∙ sym (map-map (λ _. false) value_of cells) ∙ ap (map {B = Bool} (λ _. false)) same
+          ∙ map-map (λ _. false) value_of old ∙ sym (map-map (λ _. false) (is_stamped former) old)
 
   -- one stamp more is wiped
   pub wiped_more : (cells : List (Cell V)) (n : ℕ) (wiped : Cell V) → wiped.stamp ≡ 0 → ((k : ℕ) (d : Cell V) → k < n → k < length cells → (get_or cells k d).stamp ≡ 0) → (k : ℕ) (d : Cell V) → k < n + 1 → k < length (slice_set cells n wiped) → (get_or (slice_set cells n wiped) k d).stamp ≡ 0

@@ -20,9 +20,3 @@ loop-place-preserved g c =
       count = length-set cells n (record cell { stamp = 0 }) ∙ c.loop-place.invariant.count;
       wiped = wiped_more cells n (record cell { stamp = 0 }) refl c.loop-place.invariant.wiped;
     }
-
-pub returns-clause-values : goal.returns-clause-values
-returns-clause-values g c = c.loop-place.invariant.values
-
-pub returns-clause-stamps : goal.returns-clause-stamps
-returns-clause-stamps g c = λ k d w. c.loop-place.invariant.wiped k d (let count = c.loop-place.invariant.count in omega arith) w

@@ -1,4 +1,4 @@
-use Rattle.std.proofs.Common.{◌≡◌, ◌-◌, ◌+◌, ◌++◌, ◌∷◌, [], List, None, length, length-append, replicate, arith, ap, sym, ◌∙◌}
+use Rattle.std.proofs.Common.{◌≡◌, ◌-◌, ◌+◌, ◌++◌, ◌∷◌, [], List, None, length, length-append, replicate, arith, ap, ◌∙◌}
 use Rattle.std.proofs.lemmas.Grind.{replicate_next}
 use Rattle.std.proofs.lemmas.List.{append_assoc, length-replicate}
 use Rattle.amr_tables.proofs.places.make_place.Goals as goal
@@ -8,17 +8,8 @@ one_more : {X : Type 0} (old places : List X) (none : X) → places ≡ old ++ r
 one_more old places none is =
     let added = length places - length old in
     let count = ap length is ∙ length-append old (replicate added none) in
-    let grown = length-append places (none ∷ []) in
-    let of_added = length-replicate added none in
-    let more : length (places ++ none ∷ []) - length old ≡ added + 1 = omega (arith, count, grown, of_added) in
-    ap (λ all. all ++ none ∷ []) is
-    ∙ append_assoc old (replicate added none) (none ∷ [])
-    ∙ ap (λ rest. old ++ rest) (sym (replicate_next added none))
-    ∙ ap (λ n. old ++ replicate n none) (sym more)
+    let more : length (places ++ none ∷ []) - length old ≡ added + 1 = omega (arith, count, length-append places (none ∷ []), length-replicate added none) in
+    cc (append_assoc old (replicate added none) (none ∷ []), replicate_next added none)
 
 pub loop-places-preserved : goal.loop-places-preserved
-loop-places-preserved g c =
-    let items = c.in_ok-push.ensures.items in
-    items
-    ∙ one_more c.args.places.now.items c.loop-places.places.items None c.loop-places.invariant
-    ∙ ap (λ all. c.args.places.now.items ++ replicate (length all - length c.args.places.now.items) None) (sym items)
+loop-places-preserved g c = rw c.in_ok-push.ensures.items (one_more c.args.places.now.items c.loop-places.places.items None c.loop-places.invariant)
