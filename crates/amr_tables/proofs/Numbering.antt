@@ -67,6 +67,9 @@ module _ {K V : Type 0} (R : K → K → Ordering) where
   unfolding map_of entries empty
   shown_none t none = same_entries_map _ _ (ap (λ (es : List (K × ℕ)). entries (from_sorted {R = R} (filter_map (entry_at t.cells) es))) none ∙ entries-from_sorted R [] tt)
 
+-- what a table shows, by a name that a function's attribute can give
+pub ruleset shown = (get-shown)
+
 -- what is found at a key's number is what the table shows
 pub shown_as : {K V : Type 0} {R : K → K → Ordering} → IsTotalOrder R → {t u : Numbered K V} → t ≡ u → IsNumbering R t → (q : K) {found : Option ℕ} → find R q t.numbers ≡ found → option_and_then (value_at t.cells) found ≡ get (map_of R u) q
 shown_as {R = R} o {t} same is q at = sym (get-shown R o t q is ∙ ap (option_and_then (value_at t.cells)) at) ∙ ap (λ v. get (map_of R v) q) same
@@ -174,15 +177,10 @@ module _ {K V : Type 0} (R : K → K → Ordering) where
       subst (IsSwapped t n v) (sym are) (record {
         numbering = numbering;
         shown = λ k at. same_map o exact _ _ (λ q.
-            get-shown R o _ q numbering
-            ∙ and_then k q (turned o t.numbers k q n None v (value_at (slice_set t.cells n v)) (value_at t.cells) at (λ m _ ne. value_apart t.cells n m v ne) (value_set t.cells n v within) is.apart)
-            ∙ ap (cond (eq_by_cmp R q k) v) (sym (get-shown R o t q is)) ∙ sym (get-set o (map_of R t) k v q));
+            let e = turned o t.numbers k q n None v (value_at (slice_set t.cells n v)) (value_at t.cells) at (λ m _ ne. value_apart t.cells n m v ne) (value_set t.cells n v within) is.apart in
+            get-shown R o _ q numbering ∙ grind (arith, e) ∙ ap (cond (eq_by_cmp R q k) v) (sym (get-shown R o t q is)) ∙ sym (get-set o (map_of R t) k v q));
         entered = λ k at q.
             let e = turned o t.numbers k q n false true (is_marked (slice_set t.marks n true)) (is_marked t.marks) at (λ m _ ne. mark_apart t.marks n m true ne) (mark_at t.marks n true (omega arith)) is.apart in
             grind (arith, e);
         places = λ k. refl;
       })
-    where
-      and_then : (k q : K) → option_map_or (value_at (slice_set t.cells n v)) (find R q t.numbers) None ≡ cond (eq_by_cmp R q k) v (option_map_or (value_at t.cells) (find R q t.numbers) None)
-          → option_and_then (value_at (slice_set t.cells n v)) (find R q t.numbers) ≡ cond (eq_by_cmp R q k) v (option_and_then (value_at t.cells) (find R q t.numbers))
-      and_then k q e = grind (arith, e)

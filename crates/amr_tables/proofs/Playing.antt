@@ -2,7 +2,7 @@
 use Rattle.std.proofs.Common.{◌≡◌, ◌≢◌, inl, inr, ℕ, suc, zero, ◌+◌, ◌-◌, ◌*◌, ◌/◌, ◌<◌, ◌≤◌, Bool, true, false, nat_lt, List, Option, Some, None, length, get_or, slice_set, refl, sym, ap, subst, ◌∙◌, arith}
 use Rattle.std.specs.Prelude.{◌==◌, if◌then◌else◌, ◌⊎◌, option_map}
 use Rattle.std.specs.Option.{option_cmp}
-use Rattle.std.proofs.lemmas.Bool.{cases_eq}
+use Rattle.std.proofs.lemmas.Bool.{cases_eq, true≢false}
 use Rattle.std.proofs.lemmas.Bool.Decides.{nat_tests}
 use Rattle.std.proofs.lemmas.List.{get_or-set_same, get_or-set_other}
 use Rattle.std.proofs.Math.Arith.{bin_ind}
@@ -96,10 +96,7 @@ module _ (rank : ℕ → ℕ → Ordering) (t : Tournament) (order : IsTotalOrde
     where
       by : (m : Option ℕ) → moment_at t n ≡ m → m ≡ None
       by None at = refl
-      by (Some m) at = absurd (after (subst (λ (p : Option ℕ × Option ℕ). is_gt (timer_cmp rank (p.0, winner_at t 1) (p.1, n)) ≡ false) (λ i. (none i, at i)) (first_of_all n (value_within t.moments n m at))))
-        where
-          after : true ≡ false → ⊥
-          after e = cc
+      by (Some m) at = absurd (true≢false (subst (λ (p : Option ℕ × Option ℕ). is_gt (timer_cmp rank (p.0, winner_at t 1) (p.1, n)) ≡ false) (λ i. (none i, at i)) (first_of_all n (value_within t.moments n m at))))
 
 -- ---- what a new winner changes
 

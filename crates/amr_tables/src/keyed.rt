@@ -56,6 +56,7 @@ impl<K: Key + Drop, V: Drop> Keyed<K, V> {
     }
 
     /// Returns the value of a key.
+    #[tactic(auto, using(crate::proofs::Numbering::shown))]
     pub fn get(&self, key: &K) -> Option<&V>
         ensures { option_copied result ≡ map.get (map_of K.cmp self.now) key.now }
     {

@@ -1,4 +1,4 @@
-use Rattle.std.proofs.Common.{◌≡◌, ◌∙◌, arith, refl, ap, None, Some, Option, is_some}
+use Rattle.std.proofs.Common.{◌≡◌, ◌∙◌, arith, ap, None, Option, is_some}
 use Rattle.std.specs.Borrow.{Bor}
 use Rattle.std.specs.List.{last_or}
 use Rattle.std.specs.Option.{option_copied}
@@ -8,8 +8,7 @@ use Rattle.amr_tables.proofs.Queueing.{copied_last}
 use Rattle.amr_tables.proofs.earliest.Earliest.last.Goals as goal
 
 copied_some : (r : Option (Bor NumberedMoment)) → is_some (option_copied r) ≡ is_some r
-copied_some None = refl
-copied_some (Some s) = refl
+copied_some r = grind arith
 
 pub returns : goal.returns
 returns c =
