@@ -1,7 +1,6 @@
 pub mod Listed
 pub mod Counting
 pub mod Placing
-pub mod Stamping
 pub mod Numbering
 pub mod Sorting
 pub mod Seating

@@ -1,7 +1,7 @@
 -- What a numbering of keys shows, and how it changes.
-use Rattle.std.proofs.Common.{◌≡◌, ℕ, ◌+◌, ◌<◌, ◌≤◌, Bool, true, false, cond, T, List, [], ◌∷◌, ◌++◌, Option, None, Some, length, length-set, refl, sym, ap, subst, ◌∙◌, arith, slice_set, is_some, map}
+use Rattle.std.proofs.Common.{◌≡◌, ℕ, ◌+◌, ◌<◌, ◌≤◌, cond, T, List, [], ◌∷◌, ◌++◌, Option, None, Some, length, length-set, refl, sym, ap, subst, ◌∙◌, arith, slice_set, is_some}
 use Rattle.std.specs.Prelude.{option_map, option_and_then}
-use Rattle.std.specs.Option.{option_or, option_map_or}
+use Rattle.std.specs.Option.{option_or}
 use Rattle.std.specs.List.{filter_map, cons_option}
 use Rattle.std.specs.declared.cmp.Ordering.{Ordering}
 use Rattle.std.specs.declared.cmp.Ordering.TheVariants.{Equal}
@@ -9,15 +9,12 @@ use Rattle.std.specs.Ordering.{eq_by_cmp, is_lt}
 use Rattle.std.specs.Cmp.{IsTotalOrder, eq_by_cmp_equiv, tied_itself}
 use Rattle.std.specs.FinMap.{find, put, is_sorted, IsAntisymmetric}
 use Rattle.std.specs.FinMap.Entries.{below_all, find-put, is_sorted-put, length-put}
-use Rattle.std.proofs.lemmas.List.{get_or-set_same, get_or-set_other, length-map}
-use Rattle.std.proofs.lemmas.Option.{unwrap_or-slice_get, slice_get-map}
 use Rattle.amr_labels.proofs.Sorted.{both, first, second, less}
 use Rattle.amr_labels.specs.Map.{from_sorted, entries, get, empty, same_map, same_entries_map, entries-from_sorted, get-entries, get-set}
-use Rattle.amr_tables.specs.Places.{value_at, is_marked}
+use Rattle.amr_tables.specs.Places.{value_at}
 use Rattle.amr_tables.proofs.Placing.{value_set, value_apart, value_past, value_push, length-push}
 use Rattle.amr_tables.proofs.Counting.{alike}
-use Rattle.amr_tables.proofs.Present.{marked_push}
-use Rattle.amr_tables.specs.Numbered.{Numbered, entry_at, number_of, has_place, is_entered, map_of, IsNumbering, IsSetAt, EntersAt, SamePlaces, SameEntered, KeepsPlaces, GetsNumber}
+use Rattle.amr_tables.specs.Numbered.{Numbered, entry_at, number_of, has_place, map_of, IsNumbering, IsSetAt, SamePlaces, KeepsPlaces, GetsNumber}
 
 -- what is so of a list, and of it behind the key with its value, is so where the key may have one
 pub with_entry : {K V : Type 0} (P : List (K × V) → Type 0) (k : K) (found : Option V) (rest : List (K × V)) → P rest → ((v : V) → found ≡ Some v → P ((k, v) ∷ rest)) → P (cons_option (option_map (λ v. (k, v)) found) rest)
@@ -74,23 +71,11 @@ pub ruleset shown = (get-shown)
 pub shown_as : {K V : Type 0} {R : K → K → Ordering} → IsTotalOrder R → {t u : Numbered K V} → t ≡ u → IsNumbering R t → (q : K) {found : Option ℕ} → find R q t.numbers ≡ found → option_and_then (value_at t.cells) found ≡ get (map_of R u) q
 shown_as {R = R} o {t} same is q at = sym (get-shown R o t q is ∙ ap (option_and_then (value_at t.cells)) at) ∙ ap (λ v. get (map_of R v) q) same
 
--- ---- a value at another place
-
-mark_apart : (marks : List Bool) (n m : ℕ) (v : Bool) → (m ≡ n → ⊥) → is_marked (slice_set marks n v) m ≡ is_marked marks m
-mark_apart marks n m v h = unwrap_or-slice_get (slice_set marks n v) m false ∙ get_or-set_other marks n m v false h ∙ sym (unwrap_or-slice_get marks m false)
-
-mark_at : (marks : List Bool) (n : ℕ) (v : Bool) → n < length marks → is_marked (slice_set marks n v) n ≡ v
-mark_at marks n v h = unwrap_or-slice_get (slice_set marks n v) n false ∙ get_or-set_same marks n v false h
-
--- no place is marked once the marks are cleared
-pub no_mark : (marks : List Bool) (m : ℕ) → is_marked (map (λ _. false) marks) m ≡ false
-no_mark marks m = grind (arith, slice_get-map {B = Bool} (λ _. false) marks m)
-
 -- ---- changes
 
 -- what a function of numbers answers at a key, where it is another one at the number n
-turned : {K A : Type 0} {R : K → K → Ordering} (o : IsTotalOrder R) (numbers : List (K × ℕ)) (k q : K) (n : ℕ) (d w : A) (f g : ℕ → A) → find R k numbers ≡ Some n → ((m : ℕ) → find R q numbers ≡ Some m → (m ≡ n → ⊥) → f m ≡ g m) → f n ≡ w → ((key other : K) (m : ℕ) → find R key numbers ≡ Some m → find R other numbers ≡ Some m → T (eq_by_cmp R other key)) → option_map_or f (find R q numbers) d ≡ cond (eq_by_cmp R q k) w (option_map_or g (find R q numbers) d)
-turned {R = R} o numbers k q n d w f g is apart at same = grind (arith, alike o q k numbers, is, apart, at, same k q n)
+turned : {K A : Type 0} {R : K → K → Ordering} (o : IsTotalOrder R) (numbers : List (K × ℕ)) (k q : K) (n : ℕ) (w : Option A) (f g : ℕ → Option A) → find R k numbers ≡ Some n → ((m : ℕ) → find R q numbers ≡ Some m → (m ≡ n → ⊥) → f m ≡ g m) → f n ≡ w → ((key other : K) (m : ℕ) → find R key numbers ≡ Some m → find R other numbers ≡ Some m → T (eq_by_cmp R other key)) → option_and_then f (find R q numbers) ≡ cond (eq_by_cmp R q k) w (option_and_then g (find R q numbers))
+turned {R = R} o numbers k q n w f g is apart at same = grind (arith, alike o q k numbers, is, apart, at, same k q n)
 
 -- a key whose number shows nothing adds nothing to what is shown
 filter_map-put : {K A : Type 0} (R : K → K → Ordering) (f : K × ℕ → Option A) (k : K) (n : ℕ) (es : List (K × ℕ)) → f (k, n) ≡ None → find R k es ≡ None → filter_map f (put R k n es) ≡ filter_map f es
@@ -99,21 +84,12 @@ filter_map-put R f k n (e ∷ es) none is = let rest = filter_map-put R f k n es
 
 module _ {K V : Type 0} {R : K → K → Ordering} (o : IsTotalOrder R) where
   -- the keys keep their numbers, at other places
-  replaced : (t : Numbered K V) (cells : List (Option V)) (marks : List Bool) → IsNumbering R t → length t.cells ≤ length cells → length cells ≤ length marks → ((n : ℕ) → length cells ≤ n → is_marked marks n ≡ false)
-      → IsNumbering R (record { numbers = t.numbers; cells = cells; marks = marks })
-  replaced t cells marks is more marked spare = record {
+  replaced : (t : Numbered K V) (cells : List (Option V)) → IsNumbering R t → length t.cells ≤ length cells → IsNumbering R (record { numbers = t.numbers; cells = cells })
+  replaced t cells is more = record {
     sorted = is.sorted;
     within = λ key m e. let h = is.within key m e in omega arith;
     apart = is.apart;
-    marked = marked;
-    spare = spare;
   }
-
-  -- no mark is left
-  pub cleared_is : (t u : Numbered K V) → u ≡ record t { marks = map (λ _. false) t.marks } → IsNumbering R t → IsNumbering R u
-  cleared_is t u are is =
-      let same = length-map {B = Bool} t.marks (λ _. false) in
-      subst (IsNumbering R) (sym are) (replaced t t.cells (map (λ _. false) t.marks) is (omega arith) (omega (arith, is.marked)) (λ m h. no_mark t.marks m))
 
   -- a key more, whose place has no value
   pub added_is : (t : Numbered K V) (k : K) (n : ℕ) → find R k t.numbers ≡ None → n < length t.cells → ((key : K) (m : ℕ) → find R key t.numbers ≡ Some m → m < n) → IsNumbering R t → IsNumbering R (record t { numbers = put R k n t.numbers })
@@ -121,38 +97,30 @@ module _ {K V : Type 0} {R : K → K → Ordering} (o : IsTotalOrder R) where
     sorted = is_sorted-put R o k n t.numbers is.sorted;
     within = λ key m e. grind (arith, find-put R o key k n t.numbers, is.within key m, e);
     apart = λ key other m e f. grind (arith, find-put R o key k n t.numbers, find-put R o other k n t.numbers, fresh key m, fresh other m, is.apart key other m, (eq_by_cmp_equiv o).congr other k key, (eq_by_cmp_equiv o).symm k key, e, f);
-    marked = is.marked;
-    spare = is.spare;
   }
 
 module _ {K V : Type 0} (R : K → K → Ordering) where
-  -- what a table shows once a key more has an empty place that isn't marked
+  -- what a table shows once a key more has an empty place
   pub record IsAdded (t u : Numbered K V) (k : K) : Type 0 where
     pub numbering : IsNumbering R u
     pub shown : map_of R u ≡ map_of R t
-    pub entered : SameEntered R t u
     pub places : KeepsPlaces R t u
     pub made : number_of R u k ≡ Some (length t.cells)
     pub number : GetsNumber R t u k (length t.cells)
     pub values : (n : ℕ) → value_at u.cells n ≡ value_at t.cells n
     pub lengths : (length u.numbers ≡ length t.numbers + 1) × (length u.cells ≡ length t.cells + 1)
 
-  pub added_table : IsTotalOrder R → (t u : Numbered K V) (k : K) → IsNumbering R t → find R k t.numbers ≡ None → u ≡ record { numbers = put R k (length t.cells) t.numbers; cells = t.cells ++ None ∷ []; marks = t.marks ++ false ∷ [] } → IsAdded t u k
-  unfolding map_of is_entered has_place
+  pub added_table : IsTotalOrder R → (t u : Numbered K V) (k : K) → IsNumbering R t → find R k t.numbers ≡ None → u ≡ record { numbers = put R k (length t.cells) t.numbers; cells = t.cells ++ None ∷ [] } → IsAdded t u k
+  unfolding map_of has_place
   added_table o t u k is none are =
       let n = length t.cells in
       let cells = t.cells ++ None ∷ [] in
-      let marks = t.marks ++ false ∷ [] in
-      let w : Numbered K V = record { numbers = t.numbers; cells = cells; marks = marks } in
       let more = length-push t.cells None in
-      let more_marks = length-push t.marks false in
-      let marked = is.marked in
       let no_value : value_at cells n ≡ None = value_push t.cells n ∙ value_past t.cells n (omega arith) in
       subst (λ u. IsAdded t u k) (sym are) (record {
-        numbering = added_is o w k n none (omega arith) is.within (replaced o t cells marks is (omega arith) (omega arith) (λ m h. marked_push t.marks m ∙ is.spare m (omega arith)));
+        numbering = added_is o (record { numbers = t.numbers; cells = cells }) k n none (omega arith) is.within (replaced o t cells is (omega arith));
         shown = ap (from_sorted {R = R}) (filter_map-put R (entry_at cells) k n t.numbers (ap (option_map (λ v. (k, v))) no_value) none)
             ∙ ap (λ (f : K × ℕ → Option (K × V)). from_sorted {R = R} (filter_map f t.numbers)) (λ i e. option_map (λ v. (e.0, v)) (value_push t.cells e.1 i));
-        entered = λ q. grind (arith, find-put R o q k n t.numbers, alike o q k t.numbers, none, marked_push t.marks, is.spare n);
         places = λ q p. grind (arith, find-put R o q k n t.numbers, p);
         made = grind (arith, find-put R o k k n t.numbers, tied_itself o k);
         number = λ q. find-put R o q k n t.numbers;
@@ -160,27 +128,22 @@ module _ {K V : Type 0} (R : K → K → Ordering) where
         lengths = (length-put R o k n t.numbers is.sorted ∙ ap (λ (x : Option ℕ). cond (is_some x) (length t.numbers) (length t.numbers + 1)) none, omega arith);
       })
 
-  -- what a table shows once the key with a number has another value, and its place is marked
+  -- what a table shows once the key with a number has another value
   pub record IsSwapped (t : Numbered K V) (n : ℕ) (v : Option V) (u : Numbered K V) : Type 0 where
     pub numbering : IsNumbering R u
     pub shown : IsSetAt R t n v u
-    pub entered : EntersAt R t n u
     pub places : SamePlaces R t u
 
-  pub swapped_is : IsTotalOrder R → IsAntisymmetric R → (t u : Numbered K V) (n : ℕ) (v : Option V) → u ≡ record { numbers = t.numbers; cells = slice_set t.cells n v; marks = slice_set t.marks n true } → IsNumbering R t → n < length t.cells → IsSwapped t n v u
-  unfolding map_of is_entered has_place
+  pub swapped_is : IsTotalOrder R → IsAntisymmetric R → (t u : Numbered K V) (n : ℕ) (v : Option V) → u ≡ record { numbers = t.numbers; cells = slice_set t.cells n v } → IsNumbering R t → n < length t.cells → IsSwapped t n v u
+  unfolding map_of has_place
   swapped_is o exact t u n v are is within =
       let same = length-set t.cells n v in
-      let same_marks = length-set t.marks n true in
-      let most = is.marked in
-      let numbering = replaced o t (slice_set t.cells n v) (slice_set t.marks n true) is (omega arith) (omega arith) (λ m h. mark_apart t.marks n m true (λ e. absurd (omega arith)) ∙ is.spare m (omega arith)) in
+      let numbering = replaced o t (slice_set t.cells n v) is (omega arith) in
       subst (IsSwapped t n v) (sym are) (record {
         numbering = numbering;
         shown = λ k at. same_map o exact _ _ (λ q.
-            let e = turned o t.numbers k q n None v (value_at (slice_set t.cells n v)) (value_at t.cells) at (λ m _ ne. value_apart t.cells n m v ne) (value_set t.cells n v within) is.apart in
-            get-shown R o _ q numbering ∙ grind (arith, e) ∙ ap (cond (eq_by_cmp R q k) v) (sym (get-shown R o t q is)) ∙ sym (get-set o (map_of R t) k v q));
-        entered = λ k at q.
-            let e = turned o t.numbers k q n false true (is_marked (slice_set t.marks n true)) (is_marked t.marks) at (λ m _ ne. mark_apart t.marks n m true ne) (mark_at t.marks n true (omega arith)) is.apart in
-            grind (arith, e);
+            get-shown R o _ q numbering
+            ∙ turned o t.numbers k q n v (value_at (slice_set t.cells n v)) (value_at t.cells) at (λ m _ ne. value_apart t.cells n m v ne) (value_set t.cells n v within) is.apart
+            ∙ ap (cond (eq_by_cmp R q k) v) (sym (get-shown R o t q is)) ∙ sym (get-set o (map_of R t) k v q));
         places = λ k. refl;
       })

@@ -1,28 +1,25 @@
 -- Tables of values by key, in which each key has a number.
-use Rattle.std.specs.Prelude.{◌≡◌, ◌==◌, ℕ, suc, Bool, false, List, [], ◌∷◌, Option, None, Some, if◌then◌else◌, is_some, ◌||◌, option_map, ◌<◌, ◌≤◌, T, IsTrue, length, refl}
-use Rattle.std.specs.Option.{option_map_or, option_cmp}
+use Rattle.std.specs.Prelude.{◌≡◌, ◌==◌, ℕ, suc, Bool, List, [], ◌∷◌, Option, None, Some, if◌then◌else◌, is_some, option_map, ◌<◌, T, IsTrue, length, refl}
+use Rattle.std.specs.Option.{option_cmp}
 use Rattle.std.specs.List.{filter_map}
 use Rattle.std.specs.declared.cmp.Ordering.{Ordering}
 use Rattle.std.specs.Ordering.{eq_by_cmp}
 use Rattle.std.specs.FinMap.{find, put, is_sorted}
 use Rattle.std.specs.Borrow.{Bor}
-use Rattle.std.specs.Coded.{Coded, code_by, coded×, coded_ℕ, coded_bool, coded_list, coded_option}
+use Rattle.std.specs.Coded.{Coded, code_by, coded×, coded_ℕ, coded_list, coded_option}
 use Rattle.amr_labels.specs.Map.{Map, from_sorted, get, set}
 use Rattle.amr_tables.specs.Places.{value_at}
-use Rattle.amr_tables.specs.Places.{is_marked}
 
--- The number of each key, in the order of the keys, the value at each place, and which places are
--- marked as entered.
+-- The number of each key, in the order of the keys, and the value at each place.
 pub record Numbered (K V : Type 0) : Type 0 where
   pub numbers : List (K × ℕ)
   pub cells : List (Option V)
-  pub marks : List Bool
 
 abbrev pub numbered_code : {K V : Type 0} → Coded K → Coded V → Coded (Numbered K V)
 numbered_code {K} {V} k v =
-    code_by (List (K × ℕ) × (List (Option V) × List Bool)) (coded× (coded_list (coded× k coded_ℕ)) (coded× (coded_list (coded_option v)) (coded_list coded_bool)))
-    (λ t. (t.numbers, (t.cells, t.marks)))
-    (λ p. record { numbers = p.0; cells = p.1.0; marks = p.1.1 })
+    code_by (List (K × ℕ) × List (Option V)) (coded× (coded_list (coded× k coded_ℕ)) (coded_list (coded_option v)))
+    (λ t. (t.numbers, t.cells))
+    (λ p. record { numbers = p.0; cells = p.1 })
     (λ _. refl)
 
 -- The number of each key, in the order of the keys, and how many more keys there is room for.
@@ -75,10 +72,6 @@ module _ {K V : Type 0} where
     unfoldable pub has_place : Numbered K V → K → Bool
     has_place t key = is_some (number_of t key)
 
-    -- whether the key's place is marked as entered in the open record
-    unfoldable pub is_entered : Numbered K V → K → Bool
-    is_entered t key = option_map_or (is_marked t.marks) (number_of t key) false
-
     -- the finite map that the table shows
     unfoldable pub map_of : Numbered K V → Map R V
     map_of t = from_sorted (filter_map (entry_at t.cells) t.numbers)
@@ -99,10 +92,6 @@ module _ {K V : Type 0} where
     abbrev pub IsNumber : Numbered K V → ℕ → Type 0
     IsNumber t n = (key : K) × (number_of t key ≡ Some n)
 
-    -- the truth value says whether the place of the key with this number is marked
-    abbrev pub IsMarkOf : Numbered K V → ℕ → Bool → Type 0
-    IsMarkOf t n marked = (key : K) → number_of t key ≡ Some n → marked ≡ is_entered t key
-
     -- the key with this number has the value in the second table, or none, and each other key keeps
     -- its own
     abbrev pub IsSetAt : Numbered K V → ℕ → Option V → Numbered K V → Type 0
@@ -112,27 +101,8 @@ module _ {K V : Type 0} where
     abbrev pub SamePlaces : Numbered K V → Numbered K V → Type 0
     SamePlaces old changed = (key : K) → has_place changed key ≡ has_place old key
 
-    -- the same places are marked
-    abbrev pub SameEntered : Numbered K V → Numbered K V → Type 0
-    SameEntered old changed = (key : K) → is_entered changed key ≡ is_entered old key
-
-    -- no place is marked
-    abbrev pub NoneEntered : Numbered K V → Type 0
-    NoneEntered t = (key : K) → is_entered t key ≡ false
-
-    -- the key's place is marked, and so is each that was marked before
-    abbrev pub Enters : Numbered K V → Numbered K V → K → Type 0
-    Enters old changed key = (other : K) → is_entered changed other ≡ (eq_by_cmp R other key || is_entered old other)
-
-    -- the place of the key with this number is marked, and so is each that was marked before
-    abbrev pub EntersAt : Numbered K V → ℕ → Numbered K V → Type 0
-    EntersAt old n changed = (key : K) → number_of old key ≡ Some n → Enters old changed key
-
-    -- The keys rise strictly, each number has a place, no two keys share a number, and only places
-    -- are marked.
+    -- The keys rise strictly, each number has a place, and no two keys share a number.
     pub record IsNumbering (t : Numbered K V) : Type 0 where
       pub sorted : T (is_sorted R t.numbers)
       pub within : (key : K) (n : ℕ) → find R key t.numbers ≡ Some n → n < length t.cells
       pub apart : (key other : K) (n : ℕ) → find R key t.numbers ≡ Some n → find R other t.numbers ≡ Some n → T (eq_by_cmp R other key)
-      pub marked : length t.cells ≤ length t.marks
-      pub spare : (n : ℕ) → length t.cells ≤ n → is_marked t.marks n ≡ false

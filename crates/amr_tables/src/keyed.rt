@@ -6,15 +6,15 @@ ghost use Rattle.std.specs.Map.Iter.{deref_pair};
 ghost use Rattle.std.specs.Option.{option_copied};
 ghost use Rattle.amr_labels.specs.Map as map;
 ghost use Rattle.amr_tables.specs.Places.{value_at, values_of};
-ghost use Rattle.amr_tables.specs.Numbered.{map_of, has_place, next_number, number_of, KeepsPlaces, GetsNumber, IsValueOf, IsNumber, IsMarkOf, IsSetAt, EntersAt, SamePlaces, SameEntered, NoneEntered, IsNumbering, key_at, rank_of};
+ghost use Rattle.amr_tables.specs.Numbered.{map_of, has_place, next_number, number_of, KeepsPlaces, GetsNumber, IsValueOf, IsNumber, IsSetAt, SamePlaces, IsNumbering, key_at, rank_of};
 
-use crate::cells::Cells;
 use crate::key::Key;
 use crate::numbers::Numbers;
 use crate::values::Values;
 use std::alloc::{AllocError, Global};
 use std::cmp::Ordering;
 use std::marker::Model;
+use std::mem;
 
 /// A table of values by key. A key gets the next number, and its place, when it is first seen, and
 /// keeps both. Contracts see the numbers of the keys, in the order of the keys, and the value at
@@ -22,7 +22,7 @@ use std::marker::Model;
 #[derive(Drop)]
 pub struct Keyed<K: Key, V> {
     numbers: Numbers<K>,
-    cells: Cells<V>,
+    cells: Vec<Option<V>>,
 }
 
 impl<K: Key, V> Model for Keyed<K, V> {
@@ -33,25 +33,24 @@ impl<K: Key, V> Model for Keyed<K, V> {
 
     ghost coded = { numbered_code K.code V.code };
 
-    ghost view = { λ t. record { numbers = t.numbers.list; cells = t.cells.values; marks = t.cells.marks } };
+    ghost view = { λ t. record { numbers = t.numbers.list; cells = t.cells.items } };
 
-    ghost invariant = { λ t. IsNumbering K.cmp (record { numbers = t.numbers.list; cells = t.cells.values; marks = t.cells.marks })
-        × (length t.numbers.list ≡ length t.cells.values) };
+    ghost invariant = { λ t. IsNumbering K.cmp (record { numbers = t.numbers.list; cells = t.cells.items })
+        × (length t.numbers.list ≡ length t.cells.items) };
 }
 
 impl<K: Key + Drop, V: Drop> Keyed<K, V> {
     /// Builds a table without keys.
-    #[tactic(auto, using(crate::proofs::Numbering::shown_none), unfolding(crate::specs::Numbered::is_entered))]
+    #[tactic(auto, using(crate::proofs::Numbering::shown_none))]
     pub fn new(alloc: Global) -> Keyed<K, V>
         ensures shown { map_of K.cmp result ≡ map.empty }
-        ensures entered { NoneEntered K.cmp result }
         ensures keys { result.numbers ≡ [] }
         ensures cells { result.cells ≡ [] }
         ensures numbering { IsNumbering K.cmp result }
     {
         Keyed {
             numbers: Numbers::new(alloc),
-            cells: Cells::new(alloc),
+            cells: Vec::new(alloc),
         }
     }
 
@@ -62,7 +61,7 @@ impl<K: Key + Drop, V: Drop> Keyed<K, V> {
     {
         match self.numbers.get(key) {
             None => None,
-            Some(number) => self.cells.at(number),
+            Some(number) => self.at(number),
         }
     }
 
@@ -75,7 +74,7 @@ impl<K: Key + Drop, V: Drop> Keyed<K, V> {
         let numbers = self.numbers.sorted(alloc)?;
         let mut found = Vec::with_capacity(alloc, numbers.len())?;
         for (key, number) in numbers.as_slice() {
-            if let Some(value) = self.cells.at(*number) {
+            if let Some(value) = self.at(*number) {
                 found.push((*key, value))?;
             }
         }
@@ -100,7 +99,7 @@ impl<K: Key + Drop, V: Drop> Keyed<K, V> {
     {
         match self.numbers.get(key) {
             None => (None, None),
-            Some(number) => (Some(number), self.cells.at(number)),
+            Some(number) => (Some(number), self.at(number)),
         }
     }
 
@@ -140,7 +139,7 @@ impl<K: Key + Drop, V: Drop> Keyed<K, V> {
         ensures place { option_copied result ≡ value_at self.now.cells number }
         ensures key { IsValueOf K.cmp self.now number (option_copied result) }
     {
-        self.cells.at(number)
+        self.cells.get(number)?.as_ref()
     }
 
     /// Makes an empty place for a key, unless it has one. Returns its number.
@@ -149,7 +148,6 @@ impl<K: Key + Drop, V: Drop> Keyed<K, V> {
         ensures made { IfOk result (λ number. number_of K.cmp self.new key ≡ Some number) }
         ensures places { KeepsPlaces K.cmp self.old self.new }
         ensures shown { map_of K.cmp self.new ≡ map_of K.cmp self.old }
-        ensures entered { SameEntered K.cmp self.old self.new }
         ensures values { (n : ℕ) → value_at self.new.cells n ≡ value_at self.old.cells n }
         ensures numbers { IsTrue (has_place K.cmp self.old key)
             → self.new.numbers ≡ self.old.numbers }
@@ -167,8 +165,9 @@ impl<K: Key + Drop, V: Drop> Keyed<K, V> {
         }
         let number = self.cells.len();
         self.numbers.reserve()?;
-        self.cells.add_place()?;
+        self.cells.reserve(1)?;
         self.numbers.insert(key);
+        self.cells.push_reserved(None);
         Ok(number)
     }
 
@@ -183,34 +182,18 @@ impl<K: Key + Drop, V: Drop> Keyed<K, V> {
         Ok(())
     }
 
-    /// Swaps the value of the key with a number, or `None` if it has none, with another, and marks
-    /// its place as entered. Returns whether the place was marked before. It compares no keys and
-    /// takes no memory.
-    pub fn swap_at(&mut self, number: usize, value: &mut Option<V>) -> bool
+    /// Swaps the value of the key with a number, or `None` if it has none, with another. It compares
+    /// no keys and takes no memory.
+    pub fn swap_at(&mut self, number: usize, value: &mut Option<V>)
         requires { IsNumber K.cmp self.old number }
         ensures former { IsValueOf K.cmp self.old number value.new }
-        ensures was_entered { IsMarkOf K.cmp self.old number result }
         ensures shown { IsSetAt K.cmp self.old number value.old self.new }
         ensures places { SamePlaces K.cmp self.old self.new }
-        ensures entered { EntersAt K.cmp self.old number self.new }
         ensures keys { self.new.numbers ≡ self.old.numbers }
         ensures value { value.new ≡ value_at self.old.cells number }
         ensures cells { self.new.cells ≡ slice_set self.old.cells number value.old }
         ensures numbering { IsNumbering K.cmp self.new }
     {
-        self.cells.swap(number, value)
-    }
-
-    /// Clears the marks of all places. It takes no memory.
-    #[tactic(auto, using(crate::proofs::Numbering::no_mark), unfolding(crate::specs::Numbered::map_of, crate::specs::Numbered::has_place, crate::specs::Numbered::is_entered))]
-    pub fn clear_entered(&mut self)
-        ensures entered { NoneEntered K.cmp self.new }
-        ensures shown { map_of K.cmp self.new ≡ map_of K.cmp self.old }
-        ensures places { SamePlaces K.cmp self.old self.new }
-        ensures keys { self.new.numbers ≡ self.old.numbers }
-        ensures cells { self.new.cells ≡ self.old.cells }
-        ensures numbering { IsNumbering K.cmp self.new }
-    {
-        self.cells.clear_marks();
+        mem::swap(&mut self.cells[number], value);
     }
 }

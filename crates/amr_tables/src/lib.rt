@@ -2,7 +2,6 @@
 //! numbers with moments and in groups. The state is made of them. Nothing here knows alerts or routes.
 #![tactic(auto)]
 
-mod cells;
 mod earliest;
 mod grouped;
 mod journal;

@@ -3,22 +3,21 @@ ghost use Rattle.std.specs.Prelude.{◌≡◌, length};
 ghost use Rattle.std.specs.Iterator.{at_most};
 ghost use Rattle.std.specs.Map.Iter.{TakesFirst, deref};
 
-use crate::cells::Cell;
 use std::marker::Model;
 
 /// An iterator over the values of a table. Contracts see the values that are left.
 #[derive(Drop)]
 pub struct Values<'a, V> {
-    pub(crate) cells: &'a [Cell<V>],
+    pub(crate) cells: &'a [Option<V>],
 }
 
 impl<'a, V> Model for Values<'a, V> {
-    ghost use Rattle.std.specs.Prelude.{List, map};
+    ghost use Rattle.std.specs.Prelude.{List};
     ghost use Rattle.amr_tables.specs.Places.{values_of};
 
     ghost Value = { List V };
 
-    ghost view = { λ values. values_of (map (λ cell. cell.value) values.cells.now) };
+    ghost view = { λ values. values_of values.cells.now };
 }
 
 impl<'a, V> Iterator for Values<'a, V> {
@@ -31,7 +30,7 @@ impl<'a, V> Iterator for Values<'a, V> {
     fn next(&mut self) -> Option<&'a V> {
         while let Some((cell, rest)) = self.cells.split_first() {
             self.cells = rest;
-            if let Some(value) = &cell.value {
+            if let Some(value) = cell {
                 return Some(value);
             }
         }

@@ -1,8 +1,8 @@
 -- Which changes the state takes.
-use Rattle.std.specs.Prelude.{◌≤◌, Bool, true, false}
+use Rattle.std.specs.Prelude.{◌≤◌}
 use Rattle.amr_time.specs.Time.{latest_read}
 use Rattle.amr_engine.specs.declared.state.change.Change.{Change}
-use Rattle.amr_engine.specs.declared.state.change.Change.TheVariants.{OfMoment, OfRoster, OfNotes}
+use Rattle.amr_engine.specs.declared.state.change.Change.TheVariants.{OfMoment, OfNotes}
 
 -- the store takes the change: a moment that a script can have, a roster, or a value in one of the
 -- tables
@@ -10,8 +10,3 @@ abbrev pub IsAllowed : Change → Type 0
 IsAllowed (OfMoment moment) = moment ≤ latest_read
 IsAllowed (OfNotes count) = ⊥
 IsAllowed _ = Unit {0}
-
--- whether the entry is of the roster
-abbrev pub is_roster : Change → Bool
-is_roster (OfRoster roster) = true
-is_roster _ = false

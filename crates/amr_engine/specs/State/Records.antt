@@ -1,7 +1,6 @@
 -- Records of events: changes that lead back, and how an event is undone.
-use Rattle.std.specs.Prelude.{◌≤◌, ◌⊎◌, ℕ, Bool, true, false, List, [], ◌∷◌, take}
-use Rattle.std.specs.List.{list_any}
-use Rattle.std.specs.Ordering.{nat_cmp, eq_by_cmp}
+use Rattle.std.specs.Prelude.{List, [], ◌∷◌, take}
+use Rattle.std.specs.Ordering.{nat_cmp}
 use Rattle.amr_labels.specs.Map.{set}
 use Rattle.amr_labels.specs.Labels.{label_set_cmp}
 use Rattle.amr_engine.specs.declared.state.change.Change.{Change}
@@ -25,40 +24,6 @@ after_change s (OfNotes count) = record s { notes = take count s.notes }
 unfoldable pub put_back : List Change → State → State
 put_back [] s = s
 put_back (first ∷ rest) s = after_change (put_back rest s) first
-
--- whether an entry leads back at the place of a change, too: one of the roster does so for all members
--- and timers
-abbrev pub is_covered_by : Change → Change → Bool
-is_covered_by (OfMoment a) (OfMoment b) = true
-is_covered_by (OfRoster a) (OfRoster b) = true
-is_covered_by (OfAlert a v) (OfAlert b w) = eq_by_cmp label_set_cmp a b
-is_covered_by (OfSilence a v) (OfSilence b w) = eq_by_cmp nat_cmp a b
-is_covered_by (OfMember a v) (OfMember b w) = eq_by_cmp route_labels_cmp a b
-is_covered_by (OfMember a v) (OfRoster b) = true
-is_covered_by (OfTimer a v) (OfRoster b) = true
-is_covered_by (OfTimer a v) (OfTimer b w) = eq_by_cmp route_labels_cmp a b
-is_covered_by (OfLog a v) (OfLog b w) = eq_by_cmp log_key_cmp a b
-is_covered_by (OfNotes a) (OfNotes b) = true
-is_covered_by _ _ = false
-
--- whether a record has an entry for the place
-unfoldable pub has_entry : List Change → Change → Bool
-has_entry entries place = list_any (is_covered_by place) entries
-
--- the entry is of another place than the notifications
-abbrev pub IsNoNotification : Change → Type 0
-IsNoNotification (OfNotes count) = ⊥
-IsNoNotification _ = Unit {0}
-
--- the entry is of the notifications, made when there were at most n
-abbrev pub IsNotesWithin : ℕ → Change → Type 0
-IsNotesWithin n (OfNotes count) = count ≤ n
-IsNotesWithin n _ = ⊥
-
--- the record has an entry for the notifications, made when there were at most n
-unfoldable pub NotesEntered : List Change → ℕ → Type 0
-NotesEntered [] n = ⊥
-NotesEntered (first ∷ rest) n = IsNotesWithin n first ⊎ NotesEntered rest n
 
 -- the state before the records, the oldest first, given the state after them
 unfoldable pub before_all : List (List Change) → State → State

@@ -1,11 +1,11 @@
 -- What the tables and the journal of a store mean as a state with its records.
-use Rattle.std.specs.Prelude.{◌≡◌, ◌≤◌, ◌++◌, ◌||◌, ◌∷◌, [], ℕ, Bool, false, List, Some, IsTrue, length, if◌then◌else◌}
+use Rattle.std.specs.Prelude.{◌≡◌, ◌≤◌, ◌++◌, ◌∷◌, [], ℕ, List, Some, IsTrue, length}
 use Rattle.std.specs.List.{flat_map}
 use Rattle.std.specs.Ordering.{nat_cmp}
 use Rattle.amr_labels.specs.Map.{get}
 use Rattle.amr_labels.specs.Labels.{LabelSet, label_set_cmp}
 use Rattle.amr_time.specs.Time.{latest_read}
-use Rattle.amr_tables.specs.Numbered.{map_of, has_place, number_of, is_entered}
+use Rattle.amr_tables.specs.Numbered.{map_of, has_place, number_of}
 use Rattle.amr_tables.specs.Records.{Records}
 use Rattle.amr_config.specs.declared.route_labels.RouteLabels.{RouteLabels}
 use Rattle.amr_engine.specs.declared.state.notification.LogKey.{LogKey}
@@ -14,7 +14,6 @@ use Rattle.amr_engine.specs.declared.state.change.Change.TheVariants.{OfMoment, 
 use Rattle.amr_engine.specs.declared.state.tables.Tables.{Tables}
 use Rattle.amr_config.specs.RouteLabels.{route_labels_cmp}
 use Rattle.amr_engine.specs.State.State.{State, log_key_cmp}
-use Rattle.amr_engine.specs.State.Records.{is_covered_by, has_entry, NotesEntered}
 use Rattle.amr_engine.specs.State.Kept.{Kept}
 use Rattle.amr_engine.specs.declared.state.store.Store.TheInside.{Inside}
 
@@ -80,17 +79,6 @@ change_back tables (OfTimer group timer) = OfTimer group (get (map_of route_labe
 change_back tables (OfLog key entry) = OfLog key (get (map_of log_key_cmp tables.log) key)
 change_back tables (OfNotes count) = OfNotes (length tables.notes.items)
 
--- whether the entry's place is marked: the open record has an entry that leads back there
-abbrev pub is_marked_at : Tables → Change → Bool
-is_marked_at tables (OfMoment moment) = tables.is_moment_entered
-is_marked_at tables (OfRoster roster) = false
-is_marked_at tables (OfAlert labels alert) = is_entered label_set_cmp tables.alerts labels
-is_marked_at tables (OfSilence id silence) = is_entered nat_cmp tables.silences id
-is_marked_at tables (OfMember member alert) = tables.is_roster_entered || is_entered route_labels_cmp tables.roster.placements member
-is_marked_at tables (OfTimer group timer) = tables.is_roster_entered || is_entered route_labels_cmp tables.roster.timers group
-is_marked_at tables (OfLog key entry) = is_entered log_key_cmp tables.log key
-is_marked_at tables (OfNotes count) = tables.are_notes_entered
-
 -- the number is that of the change's place; the clock, the roster and the notifications are in no
 -- table
 abbrev pub IsPlaceOf : Tables → Change → ℕ → Type 0
@@ -100,18 +88,6 @@ IsPlaceOf tables (OfMember member alert) n = number_of route_labels_cmp tables.r
 IsPlaceOf tables (OfTimer group timer) n = number_of route_labels_cmp tables.roster.timers group ≡ Some n
 IsPlaceOf tables (OfLog key entry) n = number_of log_key_cmp tables.log key ≡ Some n
 IsPlaceOf tables _ n = Unit {0}
-
--- no mark is new
-abbrev pub NoNewMark : Tables → Tables → Change → Type 0
-NoNewMark a b place = IsTrue (is_marked_at b place) → IsTrue (is_marked_at a place)
-
--- no mark is new but where the entry leads back
-abbrev pub NewMarkAt : Change → Tables → Tables → Change → Type 0
-NewMarkAt e a b place = IsTrue (is_marked_at b place) → IsTrue (is_covered_by place e || is_marked_at a place)
-
--- no place is marked
-abbrev pub IsUnmarked : Tables → Type 0
-IsUnmarked tables = (place : Change) → is_marked_at tables place ≡ false
 
 -- the second tables have all places of the first
 pub record MorePlaces (a b : Tables) : Type 0 where
@@ -137,26 +113,21 @@ pub record SameValues (a b : Tables) : Type 0 where
 pub record IsRoomier (a : Tables) (journal : Records Change) (b : Tables) (written : Records Change) : Type 0 where
   pub values : SameValues a b
   pub places : MorePlaces a b
-  pub marks : (place : Change) → NoNewMark a b place
   pub closed : written.closed ≡ journal.closed
   pub current : written.current ≡ journal.current
   pub room : written.record_room ≡ journal.record_room
 
--- The open record has an entry more, which leads back from the change, unless the place is marked.
--- No other place gets a mark but those where that entry leads back, too.
-pub record IsEntered (a : Tables) (journal : Records Change) (change : Change) (b : Tables) (written : Records Change) : Type 0 where
-  pub current : written.current ≡ (if is_marked_at a change then journal.current else journal.current ++ change_back a change ∷ [])
+-- The open record has an entry more, which leads back from the change.
+pub record IsEntered (a : Tables) (journal : Records Change) (change : Change) (written : Records Change) : Type 0 where
+  pub current : written.current ≡ journal.current ++ change_back a change ∷ []
   pub closed : written.closed ≡ journal.closed
   pub room : written.record_room ≡ journal.record_room
-  pub marks : (place : Change) → NewMarkAt (change_back a change) a b place
 
 -- the entries of all records, the oldest first
 abbrev pub entries_of : Inside → List Change
 entries_of store = flat_map (λ closed. closed) store.journal.closed ++ store.journal.current
 
--- Every record can be undone, and each marked place has an entry in the open record.
+-- Every record can be undone.
 pub record IsKept (store : Inside) : Type 0 where
   pub moment : store.tables.moment ≤ latest_read
   pub sound : AreSound (entries_of store) store.tables
-  pub marked : (place : Change) → IsTrue (is_marked_at store.tables place) → IsTrue (has_entry store.journal.current place)
-  pub notes : IsTrue store.tables.are_notes_entered → NotesEntered store.journal.current (length store.tables.notes.items)

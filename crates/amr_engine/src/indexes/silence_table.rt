@@ -6,7 +6,7 @@ ghost use Rattle.amr_labels.specs.Map as map;
 ghost use Rattle.amr_rules.specs.Muting.{is_silenced, silencer_of};
 ghost use Rattle.amr_rules.specs.SilencePeriods.{silence_periods, silenced_in, unexpired_silences};
 ghost use Rattle.amr_rules.specs.Silences.{Silences};
-ghost use Rattle.amr_tables.specs.Numbered.{map_of, number_of, is_entered, Enters, KeepsPlaces, SamePlaces, SameEntered, NoneEntered};
+ghost use Rattle.amr_tables.specs.Numbered.{map_of, number_of, KeepsPlaces, SamePlaces};
 
 use crate::indexes::cached_periods::{CachedPeriods, is_caught_up};
 use crate::indexes::silence_change::SilenceChange;
@@ -89,7 +89,6 @@ impl SilenceTable {
     /// Builds a table without silences.
     pub fn new(alloc: Global) -> SilenceTable
         ensures shown { map_of nat_cmp result ≡ map.empty }
-        ensures entered { NoneEntered nat_cmp result }
     {
         SilenceTable {
             alloc,
@@ -352,23 +351,11 @@ impl SilenceTable {
         }
     }
 
-    /// Clears the marks of all places, so that the open record takes their next change again. It
-    /// takes no memory.
-    pub fn clear_entered(&mut self)
-        ensures entered { NoneEntered nat_cmp self.new }
-        ensures shown { map_of nat_cmp self.new ≡ map_of nat_cmp self.old }
-        ensures places { SamePlaces nat_cmp self.old self.new }
-        ensures keys { self.new.numbers ≡ self.old.numbers }
-    {
-        self.silences.clear_entered();
-    }
-
     /// Returns the number of a silence's place. Makes the place if there is none, and room to note
     /// its next change.
     pub fn place(&mut self, id: &SilenceId) -> Result<usize, AllocError>
         ensures number { IfOk result (λ number. number_of nat_cmp self.new id.now ≡ Some number) }
         ensures shown { map_of nat_cmp self.new ≡ map_of nat_cmp self.old }
-        ensures entered { SameEntered nat_cmp self.old self.new }
         ensures places { KeepsPlaces nat_cmp self.old self.new }
     {
         // Room for this change and for its undoing. Without room everything cached is forgotten.
@@ -377,16 +364,13 @@ impl SilenceTable {
     }
 
     /// Swaps the silence with this id, or `None` if there is none, with another, given the number of
-    /// its place, and marks the place as entered. Returns whether the place was marked before. It
-    /// takes no memory.
-    pub fn swap_at(&mut self, id: &SilenceId, number: usize, silence: &mut Option<Silence>) -> bool
+    /// its place. It takes no memory.
+    pub fn swap_at(&mut self, id: &SilenceId, number: usize, silence: &mut Option<Silence>)
         requires { number_of nat_cmp self.old id.now ≡ Some number }
         ensures former { silence.new ≡ map.get (map_of nat_cmp self.old) id.now }
-        ensures was_entered { result ≡ is_entered nat_cmp self.old id.now }
         ensures shown { map_of nat_cmp self.new
             ≡ map.set (map_of nat_cmp self.old) id.now silence.old }
         ensures places { SamePlaces nat_cmp self.old self.new }
-        ensures entered { Enters nat_cmp self.old self.new id.now }
     {
         self.unexpired = None;
         let noted = SilenceChange::new(id, silence.as_ref());
@@ -398,7 +382,7 @@ impl SilenceTable {
             asked,
             noted,
         );
-        self.silences.swap_at(number, silence)
+        self.silences.swap_at(number, silence);
     }
 }
 

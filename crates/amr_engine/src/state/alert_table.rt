@@ -7,7 +7,7 @@ ghost use Rattle.amr_labels.specs.Labels.{label_set_cmp};
 ghost use Rattle.amr_labels.specs.Map as map;
 ghost use Rattle.amr_labels.specs.Set as set;
 ghost use Rattle.amr_tables.specs.Places.{values_of};
-ghost use Rattle.amr_tables.specs.Numbered.{map_of, number_of, EntersAt, KeepsPlaces, SamePlaces, SameEntered, NoneEntered, IsMarkOf, IsNumber, IsNumbering, IsSetAt, IsValueOf};
+ghost use Rattle.amr_tables.specs.Numbered.{map_of, number_of, KeepsPlaces, SamePlaces, IsNumber, IsNumbering, IsSetAt, IsValueOf};
 ghost use Rattle.amr_rules.specs.Muting.{sources_of};
 ghost use Rattle.amr_engine.specs.Indexes.RuleSources.{pairs_of, stored_of};
 ghost use Rattle.amr_config.specs.RouteLabels.{route_labels_cmp};
@@ -60,7 +60,6 @@ impl AlertTable {
     /// Builds a table without alerts.
     pub fn new(alloc: Global) -> AlertTable
         ensures shown { map_of label_set_cmp result ≡ map.empty }
-        ensures entered { NoneEntered label_set_cmp result }
     {
         AlertTable {
             alerts: Keyed::new(alloc),
@@ -118,35 +117,28 @@ impl AlertTable {
         cache_sides(&mut self.sources, rules, matched);
     }
 
-    /// Clears the marks of all places, so that the open record takes their next change again. Each
-    /// event does it, and each change of the configuration, after which other rules have the
-    /// numbers. It takes no memory.
-    pub fn clear_entered(&mut self)
-        ensures shown { map_of label_set_cmp self.new ≡ map_of label_set_cmp self.old }
-        ensures places { SamePlaces label_set_cmp self.old self.new }
-        ensures entered { NoneEntered label_set_cmp self.new }
+    /// Forgets which rules the indexes of the configuration have. Each event does it, and each undoing
+    /// of one, since another configuration may be in force then.
+    pub fn forget_indexes(&mut self)
+        ensures { self.new ≡ self.old }
     {
-        self.alerts.clear_entered();
         self.sources.forget_indexes();
     }
 
-    /// Swaps the alert of the label set with a number, or `None` if it has none, with another, and
-    /// marks its place as entered. Returns whether the place was marked before. It takes no memory.
-    pub fn swap_at(&mut self, number: usize, alert: &mut Option<Shared<Alert>>) -> bool
+    /// Swaps the alert of the label set with a number, or `None` if it has none, with another. It
+    /// takes no memory.
+    pub fn swap_at(&mut self, number: usize, alert: &mut Option<Shared<Alert>>)
         requires { IsNumber label_set_cmp self.old number }
         ensures former { IsValueOf label_set_cmp self.old number alert.new }
-        ensures was_entered { IsMarkOf label_set_cmp self.old number result }
         ensures shown { IsSetAt label_set_cmp self.old number alert.old self.new }
         ensures places { SamePlaces label_set_cmp self.old self.new }
-        ensures entered { EntersAt label_set_cmp self.old number self.new }
     {
-        let was_entered = self.alerts.swap_at(number, alert);
+        self.alerts.swap_at(number, alert);
         // `alert` is the former one now.
         let former = alert_moment(alert.as_ref());
         let alerts = &self.alerts;
         self.removals
             .update(&AlertRemovals { alerts }, number, former);
-        was_entered
     }
 
     /// Returns the number of a label set's place. Makes the place if there is none.
@@ -154,7 +146,6 @@ impl AlertTable {
         ensures number { IfOk result (λ number.
             number_of label_set_cmp self.new labels.now ≡ Some number) }
         ensures shown { map_of label_set_cmp self.new ≡ map_of label_set_cmp self.old }
-        ensures entered { SameEntered label_set_cmp self.old self.new }
         ensures places { KeepsPlaces label_set_cmp self.old self.new }
     {
         match self.alerts.number_of(labels) {
@@ -170,7 +161,6 @@ impl AlertTable {
         ensures number { IfOk result (λ number.
             number_of label_set_cmp self.new labels.now ≡ Some number) }
         ensures shown { map_of label_set_cmp self.new ≡ map_of label_set_cmp self.old }
-        ensures entered { SameEntered label_set_cmp self.old self.new }
         ensures places { KeepsPlaces label_set_cmp self.old self.new }
     {
         let copy = labels.clone()?;

@@ -32,7 +32,7 @@ pub(crate) fn make_room(
 }
 
 /// Makes a change, given the number of its place, and enters the one that leads back into the open
-/// record, unless the place is marked. It takes no memory.
+/// record. It takes no memory.
 #[inline(always)]
 pub(crate) fn enter(
     tables: &mut Tables,
@@ -44,10 +44,8 @@ pub(crate) fn enter(
     requires number { IsPlaceOf tables.old change number }
     ensures state { shown_by tables.new ≡ after_change (shown_by tables.old) change }
     ensures places { MorePlaces (with_roster tables.old change) tables.new }
-    ensures entered { IsEntered tables.old journal.old change tables.new journal.new }
+    ensures entered { IsEntered tables.old journal.old change journal.new }
 {
-    let was_marked = tables.displace(number, &mut change);
-    if !was_marked {
-        journal.push(change);
-    }
+    tables.displace(number, &mut change);
+    journal.push(change);
 }

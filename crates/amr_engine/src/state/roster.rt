@@ -6,7 +6,7 @@ ghost use Rattle.amr_labels.specs.Labels.{label_set_cmp};
 ghost use Rattle.amr_labels.specs.Map as map;
 ghost use Rattle.amr_config.specs.Groups.{groups_of};
 ghost use Rattle.amr_config.specs.Stated.RuleMatches.{rule_matches};
-ghost use Rattle.amr_tables.specs.Numbered.{map_of, number_of, IsMarkOf, IsNumber, IsSetAt, IsValueOf, KeepsPlaces, SamePlaces, EntersAt, SameEntered, NoneEntered};
+ghost use Rattle.amr_tables.specs.Numbered.{map_of, number_of, IsNumber, IsSetAt, IsValueOf, KeepsPlaces, SamePlaces};
 ghost use Rattle.std.specs.List.{cons_option};
 ghost use Rattle.amr_config.specs.RouteLabels.{route_labels_cmp};
 ghost use Rattle.amr_engine.specs.State.State.{group_key, members_among};
@@ -69,9 +69,7 @@ impl Roster {
     pub(crate) fn new(alloc: Global, config: Config) -> Roster
         ensures config { result.config ≡ config }
         ensures shown { map_of route_labels_cmp result.placements ≡ map.empty }
-        ensures entered { NoneEntered route_labels_cmp result.placements }
         ensures timers { map_of route_labels_cmp result.timers ≡ map.empty }
-        ensures timers_entered { NoneEntered route_labels_cmp result.timers }
     {
         Roster {
             alloc,
@@ -172,23 +170,6 @@ impl Roster {
         Ok(found)
     }
 
-    /// Clears the marks of all places, so that the open record takes their next change again. It
-    /// takes no memory.
-    pub(crate) fn clear_entered(&mut self)
-        ensures shown { map_of route_labels_cmp self.new.placements
-            ≡ map_of route_labels_cmp self.old.placements }
-        ensures places { SamePlaces route_labels_cmp self.old.placements self.new.placements }
-        ensures entered { NoneEntered route_labels_cmp self.new.placements }
-        ensures timers { map_of route_labels_cmp self.new.timers
-            ≡ map_of route_labels_cmp self.old.timers }
-        ensures timer_places { SamePlaces route_labels_cmp self.old.timers self.new.timers }
-        ensures timers_entered { NoneEntered route_labels_cmp self.new.timers }
-        ensures config { self.new.config ≡ self.old.config }
-    {
-        self.placements.clear_entered();
-        self.timers.clear_entered();
-    }
-
     /// Returns the number of a member's place. Makes the place if there is none, in the group that
     /// the configuration gives it.
     pub(crate) fn place_member(&mut self, member: &RouteLabels) -> Result<usize, AllocError>
@@ -196,11 +177,9 @@ impl Roster {
             number_of route_labels_cmp self.new.placements member.now ≡ Some number) }
         ensures shown { map_of route_labels_cmp self.new.placements
             ≡ map_of route_labels_cmp self.old.placements }
-        ensures entered { SameEntered route_labels_cmp self.old.placements self.new.placements }
         ensures places { KeepsPlaces route_labels_cmp self.old.placements self.new.placements }
         ensures timers { map_of route_labels_cmp self.new.timers
             ≡ map_of route_labels_cmp self.old.timers }
-        ensures timers_entered { SameEntered route_labels_cmp self.old.timers self.new.timers }
         ensures timer_places { KeepsPlaces route_labels_cmp self.old.timers self.new.timers }
         ensures config { self.new.config ≡ self.old.config }
     {
@@ -224,11 +203,9 @@ impl Roster {
             number_of route_labels_cmp self.new.placements member.now ≡ Some number) }
         ensures shown { map_of route_labels_cmp self.new.placements
             ≡ map_of route_labels_cmp self.old.placements }
-        ensures entered { SameEntered route_labels_cmp self.old.placements self.new.placements }
         ensures places { KeepsPlaces route_labels_cmp self.old.placements self.new.placements }
         ensures timers { map_of route_labels_cmp self.new.timers
             ≡ map_of route_labels_cmp self.old.timers }
-        ensures timers_entered { SameEntered route_labels_cmp self.old.timers self.new.timers }
         ensures timer_places { KeepsPlaces route_labels_cmp self.old.timers self.new.timers }
         ensures config { self.new.config ≡ self.old.config }
     {
@@ -240,23 +217,19 @@ impl Roster {
     }
 
     /// Swaps the alert of a member of its group, or `None` if it is no member, with another, given
-    /// the number of its place, and marks the place as entered. Returns whether the place was marked
-    /// before. It takes no memory.
-    pub(crate) fn swap_member(&mut self, number: usize, alert: &mut Option<Shared<Alert>>) -> bool
+    /// the number of its place. It takes no memory.
+    pub(crate) fn swap_member(&mut self, number: usize, alert: &mut Option<Shared<Alert>>)
         requires { IsNumber route_labels_cmp self.old.placements number }
         ensures former { IsValueOf route_labels_cmp self.old.placements number alert.new }
-        ensures was_entered { IsMarkOf route_labels_cmp self.old.placements number result }
         ensures shown { IsSetAt route_labels_cmp self.old.placements number alert.old
             self.new.placements }
         ensures places { SamePlaces route_labels_cmp self.old.placements self.new.placements }
-        ensures entered { EntersAt route_labels_cmp self.old.placements number
-            self.new.placements }
         ensures keys { self.new.placements.numbers ≡ self.old.placements.numbers }
         ensures timers { self.new.timers ≡ self.old.timers }
         ensures config { self.new.config ≡ self.old.config }
     {
         self.members.set(number, alert.is_some());
-        self.placements.swap_at(number, alert)
+        self.placements.swap_at(number, alert);
     }
 
     /// Returns the timer of a member's group, given the number of the member's place. It compares no
@@ -281,20 +254,18 @@ impl Roster {
         self.config.swap_cache(&mut other.config);
     }
 
-    /// Swaps the timer of the group with a number, or `None` if it has none, with another, and marks
-    /// its place as entered. Returns whether the place was marked before. It takes no memory.
+    /// Swaps the timer of the group with a number, or `None` if it has none, with another. It takes no
+    /// memory.
     #[inline(always)]
-    pub(crate) fn swap_timer(&mut self, number: usize, timer: &mut Option<GroupTimer>) -> bool
+    pub(crate) fn swap_timer(&mut self, number: usize, timer: &mut Option<GroupTimer>)
         requires { IsNumber route_labels_cmp self.old.timers number }
         ensures former { IsValueOf route_labels_cmp self.old.timers number timer.new }
-        ensures was_entered { IsMarkOf route_labels_cmp self.old.timers number result }
         ensures shown { IsSetAt route_labels_cmp self.old.timers number timer.old self.new.timers }
         ensures places { SamePlaces route_labels_cmp self.old.timers self.new.timers }
-        ensures entered { EntersAt route_labels_cmp self.old.timers number self.new.timers }
         ensures placements { self.new.placements ≡ self.old.placements }
         ensures config { self.new.config ≡ self.old.config }
     {
-        let was_entered = self.timers.swap_at(number, timer);
+        self.timers.swap_at(number, timer);
         // `timer` is the former one now.
         let flush = group_moment(Kind::GroupFlush, timer.as_ref());
         let removal = group_moment(Kind::GroupRemoval, timer.as_ref());
@@ -305,7 +276,6 @@ impl Roster {
         let kind = Kind::GroupRemoval;
         self.removals
             .update(&GroupTimers { timers, kind }, number, removal);
-        was_entered
     }
 
     /// Returns the number of a group's place. Makes the place if there is none.
@@ -314,7 +284,6 @@ impl Roster {
             number_of route_labels_cmp self.new.timers group.now ≡ Some number) }
         ensures shown { map_of route_labels_cmp self.new.timers
             ≡ map_of route_labels_cmp self.old.timers }
-        ensures entered { SameEntered route_labels_cmp self.old.timers self.new.timers }
         ensures places { KeepsPlaces route_labels_cmp self.old.timers self.new.timers }
         ensures placements { self.new.placements ≡ self.old.placements }
         ensures config { self.new.config ≡ self.old.config }
@@ -333,7 +302,6 @@ impl Roster {
             number_of route_labels_cmp self.new.timers group.now ≡ Some number) }
         ensures shown { map_of route_labels_cmp self.new.timers
             ≡ map_of route_labels_cmp self.old.timers }
-        ensures entered { SameEntered route_labels_cmp self.old.timers self.new.timers }
         ensures places { KeepsPlaces route_labels_cmp self.old.timers self.new.timers }
         ensures placements { self.new.placements ≡ self.old.placements }
         ensures config { self.new.config ≡ self.old.config }
@@ -361,7 +329,6 @@ impl Roster {
             number_of route_labels_cmp self.new.placements member.now ≡ Some number) }
         ensures shown { map_of route_labels_cmp self.new.placements
             ≡ map_of route_labels_cmp self.old.placements }
-        ensures entered { SameEntered route_labels_cmp self.old.placements self.new.placements }
         ensures places { KeepsPlaces route_labels_cmp self.old.placements self.new.placements }
         ensures timers { self.new.timers ≡ self.old.timers }
         ensures config { self.new.config ≡ self.old.config }

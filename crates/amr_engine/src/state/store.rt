@@ -43,10 +43,8 @@ use std::alloc::{AllocError, Global};
 use std::marker::Model;
 
 /// The state of the replayed instance. Each change enters the one that leads back into the open
-/// record of the journal, so that the event can be undone without taking memory. A record has one
-/// entry for each place: a later change there displaces a value that the same event made. That of a
-/// reload has the configuration with all groups, which are put back at once, so later changes of the
-/// new groups aren't entered.
+/// record of the journal, so that the event can be undone without taking memory. That of a reload has
+/// the configuration with all groups, which are put back at once.
 #[derive(Drop)]
 pub struct Store {
     alloc: Global,
@@ -87,9 +85,6 @@ impl Store {
                 roster: Roster::new(alloc, config),
                 log: Keyed::new(alloc),
                 notes: Vec::new(alloc),
-                is_moment_entered: false,
-                is_roster_entered: false,
-                are_notes_entered: false,
             },
             journal: Journal::new(alloc),
         }
@@ -115,7 +110,7 @@ impl Store {
         ensures records { self.new.records ≡ self.old.records ++ self.old.current ∷ [] }
     {
         self.journal.close();
-        self.tables.clear_entered();
+        self.tables.alerts.forget_indexes();
     }
 
     /// Opens the last record again, to undo its event.
@@ -126,7 +121,7 @@ impl Store {
         ensures records { self.old.records ≡ self.new.records ++ self.new.current ∷ [] }
     {
         self.journal.reopen();
-        self.tables.clear_entered();
+        self.tables.alerts.forget_indexes();
     }
 
     /// Undoes the last entry of the open record. It takes no memory.
@@ -138,7 +133,6 @@ impl Store {
         let mut back = self.journal.pop();
         let number = self.tables.find(&back);
         self.tables.displace(number, &mut back);
-        self.tables.clear_entered();
     }
 
     /// Undoes all entries of the open record. It takes no memory.
@@ -355,8 +349,7 @@ impl Store {
 
     // ---- changes
 
-    /// Makes a change, and enters the one that leads back into the open record, unless the record
-    /// has one of its place.
+    /// Makes a change, and enters the one that leads back into the open record.
     #[inline(always)]
     pub fn change(&mut self, change: Change) -> Result<(), AllocError>
         requires { IsAllowed change }
@@ -486,11 +479,8 @@ impl Store {
     {
         let notification = Shared::new(self.alloc, notification)?;
         self.tables.notes.reserve(1)?;
-        if !self.tables.are_notes_entered {
-            self.journal.reserve_entry()?;
-            self.journal.push(Change::OfNotes(self.tables.notes.len()));
-            self.tables.are_notes_entered = true;
-        }
+        self.journal.reserve_entry()?;
+        self.journal.push(Change::OfNotes(self.tables.notes.len()));
         self.tables.notes.push_reserved(notification);
         Ok(())
     }

@@ -1,16 +1,14 @@
-//! The representation of the state: the clock, the tables and the notifications, with the marks of
-//! what the open record has entries for. `Store` owns it, appends notifications and drops them;
-//! `displace` is the one way to change it otherwise.
-ghost use Rattle.std.specs.Prelude.{◌≡◌, ◌↔◌, ◌||◌, false, Some, IsTrue, IfOk, not};
-ghost use Rattle.amr_tables.specs.Numbered.{map_of, has_place, number_of, KeepsPlaces, SameEntered};
+//! The representation of the state: the clock, the tables and the notifications. `Store` owns it,
+//! appends notifications and drops them; `displace` is the one way to change it otherwise.
+ghost use Rattle.std.specs.Prelude.{◌≡◌, ◌↔◌, false, Some, IsTrue, IfOk};
+ghost use Rattle.amr_tables.specs.Numbered.{map_of, has_place, number_of, KeepsPlaces};
 ghost use Rattle.amr_labels.specs.Labels.{label_set_cmp};
 ghost use Rattle.amr_config.specs.RouteLabels.{route_labels_cmp};
 ghost use Rattle.amr_engine.specs.State.State.{group_key, log_key_cmp};
 ghost use Rattle.amr_engine.specs.State.Dues.{dues_of, due_by, least_due};
 ghost use Rattle.amr_engine.specs.Calm.{AreNoneRemoved};
 ghost use Rattle.amr_engine.specs.State.Records.{after_change};
-ghost use Rattle.amr_engine.specs.State.Allowed.{is_roster};
-ghost use Rattle.amr_engine.specs.State.Stored.{shown_by, change_back, with_roster, SameValues, MorePlaces, IsSound, IsPlaceOf, IsUnmarked, NoNewMark, NewMarkAt, is_marked_at};
+ghost use Rattle.amr_engine.specs.State.Stored.{shown_by, change_back, with_roster, SameValues, MorePlaces, IsSound, IsPlaceOf};
 
 use crate::indexes::SilenceTable;
 use crate::state::alert_table::AlertTable;
@@ -27,10 +25,7 @@ use amr_time::Moment;
 use std::alloc::AllocError;
 use std::mem;
 
-/// The clock, the tables and the notifications. Each table marks the places that the open record
-/// has an entry for. The clock and the notifications are in no table, so their marks are here. So is
-/// that of a roster that came with the open record, which has an entry for all its places then. The
-/// roster itself has no mark: each change of it is entered.
+/// The clock, the tables and the notifications.
 #[derive(Drop)]
 pub(crate) struct Tables {
     pub(crate) moment: Moment,
@@ -39,9 +34,6 @@ pub(crate) struct Tables {
     pub(crate) roster: Roster,
     pub(crate) log: Keyed<LogKey, Shared<LogEntry>>,
     pub(crate) notes: Vec<Shared<Notification>>,
-    pub(crate) is_moment_entered: bool,
-    pub(crate) is_roster_entered: bool,
-    pub(crate) are_notes_entered: bool,
 }
 
 impl Tables {
@@ -51,7 +43,6 @@ impl Tables {
         ensures number { IfOk result (λ number. IsPlaceOf self.new change.now number) }
         ensures values { SameValues self.old self.new }
         ensures places { MorePlaces self.old self.new }
-        ensures marks { (place : Change) → NoNewMark self.old self.new place }
     {
         match change {
             Change::OfAlert(labels, _) => self.alerts.place(labels),
@@ -74,7 +65,6 @@ impl Tables {
             number_of route_labels_cmp self.new.roster.placements member.now ≡ Some number) }
         ensures values { SameValues self.old self.new }
         ensures places { MorePlaces self.old self.new }
-        ensures marks { (place : Change) → NoNewMark self.old self.new place }
     {
         self.roster.place_in_group(member, group)
     }
@@ -94,48 +84,27 @@ impl Tables {
         }
     }
 
-    /// Makes a change, given the number of its place, and marks the place. `change` becomes the one
-    /// that leads back. Returns whether the place was marked before. A roster has no mark, but all
-    /// places in it are marked then. It takes no memory.
+    /// Makes a change, given the number of its place. `change` becomes the one that leads back. It
+    /// takes no memory.
     #[inline(always)]
-    pub(crate) fn displace(&mut self, number: usize, change: &mut Change) -> bool
+    pub(crate) fn displace(&mut self, number: usize, change: &mut Change)
         requires { IsPlaceOf self.old change.old number }
         ensures state { shown_by self.new ≡ after_change (shown_by self.old) change.old }
         ensures back { change.new ≡ change_back self.old change.old }
-        ensures was_marked { result ≡ is_marked_at self.old change.old }
-        ensures marked { is_marked_at self.new change.old ≡ not (is_roster change.old) }
         ensures places { MorePlaces (with_roster self.old change.old) self.new }
-        ensures roster { self.new.is_roster_entered
-            ≡ (is_roster change.old || self.old.is_roster_entered) }
-        ensures marks { (place : Change)
-            → NewMarkAt (change_back self.old change.old) self.old self.new place }
     {
         match change {
-            Change::OfMoment(at) => {
-                mem::swap(&mut self.moment, at);
-                mem::replace(&mut self.is_moment_entered, true)
-            }
-            Change::OfRoster(roster) => {
-                roster.swap(&mut self.roster);
-                self.is_roster_entered = true;
-                false
-            }
+            Change::OfMoment(at) => mem::swap(&mut self.moment, at),
+            Change::OfRoster(roster) => roster.swap(&mut self.roster),
             Change::OfAlert(_, alert) => self.alerts.swap_at(number, alert),
             Change::OfSilence(id, silence) => self.silences.swap_at(id, number, silence),
-            Change::OfMember(_, alert) => is_either(
-                self.is_roster_entered,
-                self.roster.swap_member(number, alert),
-            ),
-            Change::OfTimer(_, timer) => is_either(
-                self.is_roster_entered,
-                self.roster.swap_timer(number, timer),
-            ),
+            Change::OfMember(_, alert) => self.roster.swap_member(number, alert),
+            Change::OfTimer(_, timer) => self.roster.swap_timer(number, timer),
             Change::OfLog(_, entry) => self.log.swap_at(number, entry),
             Change::OfNotes(count) => {
                 let was = self.notes.len();
                 self.notes.truncate(*count);
                 *count = was;
-                mem::replace(&mut self.are_notes_entered, true)
             }
         }
     }
@@ -159,29 +128,6 @@ impl Tables {
     {
         is_due(at, self.alerts.first_removal()) || is_due(at, self.roster.first_removal())
     }
-
-    /// Clears the marks of all places, so that the open record takes their next change again. It
-    /// takes no memory.
-    pub(crate) fn clear_entered(&mut self)
-        ensures values { SameValues self.old self.new }
-        ensures places { MorePlaces self.old self.new }
-        ensures marks { IsUnmarked self.new }
-    {
-        self.alerts.clear_entered();
-        self.silences.clear_entered();
-        self.roster.clear_entered();
-        self.log.clear_entered();
-        self.is_moment_entered = false;
-        self.is_roster_entered = false;
-        self.are_notes_entered = false;
-    }
-}
-
-/// Returns whether one of two marks is set.
-fn is_either(one: bool, other: bool) -> bool
-    ensures { result ≡ (one || other) }
-{
-    one || other
 }
 
 /// Returns the number of the place of a key of the notification log. Makes the place if there is
@@ -189,7 +135,6 @@ fn is_either(one: bool, other: bool) -> bool
 fn place_log(log: &mut Keyed<LogKey, Shared<LogEntry>>, key: &LogKey) -> Result<usize, AllocError>
     ensures number { IfOk result (λ number. number_of log_key_cmp log.new key.now ≡ Some number) }
     ensures shown { map_of log_key_cmp log.new ≡ map_of log_key_cmp log.old }
-    ensures entered { SameEntered log_key_cmp log.old log.new }
     ensures places { KeepsPlaces log_key_cmp log.old log.new }
 {
     if let Some(number) = log.number_of(key) {

@@ -1,6 +1,6 @@
 use Rattle.std.proofs.Common.{ℕ, List, IsTrue, sym, ap, subst, ◌∙◌}
 use Rattle.std.specs.Ordering.{nat_cmp}
-use Rattle.amr_tables.specs.Numbered.{Numbered, map_of, has_place, is_entered}
+use Rattle.amr_tables.specs.Numbered.{Numbered, map_of, has_place}
 use Rattle.amr_rules.specs.declared.silence.Silence.{Silence}
 use Rattle.amr_rules.specs.Silences.{Silences}
 use Rattle.amr_engine.specs.declared.indexes.silence_change.SilenceChange.{SilenceChange}
@@ -18,9 +18,6 @@ invariant_of-self c =
       subst (λ (s : Silences). AreNoted s c.reserve.new.self.items) (sym same)
           (subst (λ (cs : List SilenceChange). AreNoted (map_of nat_cmp t.silences) cs) (sym c.reserve.ensures.items) c.self.invariant.2),
     )
-
-pub returns-clause-entered : goal.returns-clause-entered
-returns-clause-entered c = λ other. c.make_place.ensures.entered other ∙ ap (λ (v : Numbered ℕ Silence). is_entered nat_cmp v other) c.self.view_is
 
 pub returns-clause-places : goal.returns-clause-places
 returns-clause-places c = λ other h. c.make_place.ensures.places other (subst (λ (v : Numbered ℕ Silence). IsTrue (has_place nat_cmp v other)) (sym c.self.view_is) h)

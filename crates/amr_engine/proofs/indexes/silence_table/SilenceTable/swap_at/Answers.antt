@@ -1,6 +1,6 @@
 use Rattle.std.proofs.Common.{◌≡◌, ℕ, Some, sym, ap, subst, ◌∙◌}
 use Rattle.std.specs.Ordering.{nat_cmp}
-use Rattle.amr_tables.specs.Numbered.{Numbered, map_of, number_of, IsValueOf, IsMarkOf, IsSetAt, SamePlaces, EntersAt}
+use Rattle.amr_tables.specs.Numbered.{Numbered, map_of, number_of, IsValueOf, IsSetAt, SamePlaces}
 use Rattle.amr_rules.specs.declared.silence.Silence.{Silence}
 use Rattle.amr_rules.specs.Silences.{Silences}
 use Rattle.amr_engine.specs.Indexes.CachedSilences.{change_of}
@@ -26,14 +26,8 @@ invariant_of-self c =
 pub returns-clause-former : goal.returns-clause-former
 returns-clause-former c = subst (λ (v : Numbered ℕ Silence). IsValueOf nat_cmp v c.args.number c.swap_at.new.value) c.self.view_is c.swap_at.ensures.former c.args.id.now c.requires
 
-pub returns-clause-was_entered : goal.returns-clause-was_entered
-returns-clause-was_entered c = subst (λ (v : Numbered ℕ Silence). IsMarkOf nat_cmp v c.args.number c.swap_at.result) c.self.view_is c.swap_at.ensures.was_entered c.args.id.now c.requires
-
 pub returns-clause-shown : goal.returns-clause-shown
 returns-clause-shown c = subst (λ (v : Numbered ℕ Silence). IsSetAt nat_cmp v c.args.number c.args.silence.now c.swap_at.new.self) c.self.view_is c.swap_at.ensures.shown c.args.id.now c.requires
-
-pub returns-clause-entered : goal.returns-clause-entered
-returns-clause-entered c = subst (λ (v : Numbered ℕ Silence). EntersAt nat_cmp v c.args.number c.swap_at.new.self) c.self.view_is c.swap_at.ensures.entered c.args.id.now c.requires
 
 pub returns-clause-places : goal.returns-clause-places
 returns-clause-places c = subst (λ (v : Numbered ℕ Silence). SamePlaces nat_cmp v c.swap_at.new.self) c.self.view_is c.swap_at.ensures.places

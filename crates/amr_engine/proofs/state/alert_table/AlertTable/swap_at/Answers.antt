@@ -2,13 +2,13 @@ use Rattle.std.proofs.Common.{◌≡◌, Some, sym, ap, subst, ◌∙◌}
 use Rattle.amr_labels.specs.Labels.{LabelSet, label_set_cmp, label_set_cmp_total, label_set_cmp-IsAntisymmetric}
 use Rattle.amr_engine.specs.State.Timed.{alert_moment}
 use Rattle.amr_rules.specs.declared.alert.Alert.{Alert}
-use Rattle.amr_tables.specs.Numbered.{Numbered, number_of, IsNumber, IsValueOf, IsMarkOf, IsSetAt, SamePlaces, EntersAt}
+use Rattle.amr_tables.specs.Numbered.{Numbered, number_of, IsNumber, IsValueOf, IsSetAt, SamePlaces}
 use Rattle.amr_engine.proofs.IndexesLemmas.Arriving.{arrived_same}
 use Rattle.amr_engine.proofs.StateLemmas.Scheduling.{scheduled_set, ordered_before}
 use Rattle.amr_engine.proofs.state.alert_table.AlertTable.swap_at.Goals as goal
 
-pub swap_at-was_entered-requires : goal.swap_at-was_entered-requires
-swap_at-was_entered-requires c = subst (λ (v : Numbered LabelSet Alert). IsNumber label_set_cmp v c.args.number) (sym c.self.view_is) c.requires
+pub swap_at-requires : goal.swap_at-requires
+swap_at-requires c = subst (λ (v : Numbered LabelSet Alert). IsNumber label_set_cmp v c.args.number) (sym c.self.view_is) c.requires
 
 pub update-requires-clause-room : goal.update-requires-clause-room
 update-requires-clause-room c = c.self.invariant.0.removed.room c.requires.0 c.args.number (ap (λ (v : Numbered LabelSet Alert). number_of label_set_cmp v c.requires.0) c.self.view_is ∙ c.requires.1)
@@ -16,33 +16,27 @@ update-requires-clause-room c = c.self.invariant.0.removed.room c.requires.0 c.a
 pub update-requires-clause-kept : goal.update-requires-clause-kept
 update-requires-clause-kept c =
     let t = c.self.inside in
-    ordered_before label_set_cmp_total label_set_cmp-IsAntisymmetric alert_moment t.alerts c.swap_at-was_entered.new.self t.removals c.args.number c.args.alert.now _ c.swap_at-was_entered.ensures.keys c.swap_at-was_entered.ensures.cells (c.alert_moment-former.ensures ∙ ap alert_moment (c.as_ref.ensures.value ∙ c.swap_at-was_entered.ensures.value)) c.self.invariant.0.removed.ordered
+    ordered_before label_set_cmp_total label_set_cmp-IsAntisymmetric alert_moment t.alerts c.swap_at.new.self t.removals c.args.number c.args.alert.now _ c.swap_at.ensures.keys c.swap_at.ensures.cells (c.alert_moment-former.ensures ∙ ap alert_moment (c.as_ref.ensures.value ∙ c.swap_at.ensures.value)) c.self.invariant.0.removed.ordered
 
 pub invariant_of-self : goal.invariant_of-self
 invariant_of-self c =
     let t = c.self.inside in
     let labels = c.requires.0 in
     let n = c.args.number in
-    let u = c.swap_at-was_entered.new.self in
+    let u = c.swap_at.new.self in
     let number : number_of label_set_cmp t.alerts labels ≡ Some n = ap (λ (v : Numbered LabelSet Alert). number_of label_set_cmp v labels) c.self.view_is ∙ c.requires.1 in (
       record {
-        numbering = c.swap_at-was_entered.ensures.numbering;
-        removed = scheduled_set label_set_cmp_total label_set_cmp-IsAntisymmetric alert_moment t.alerts u t.removals c.update.new.self labels n number c.swap_at-was_entered.ensures.keys c.update.ensures.room c.update.ensures.held c.update.ensures.kept c.self.invariant.0.removed;
+        numbering = c.swap_at.ensures.numbering;
+        removed = scheduled_set label_set_cmp_total label_set_cmp-IsAntisymmetric alert_moment t.alerts u t.removals c.update.new.self labels n number c.swap_at.ensures.keys c.update.ensures.room c.update.ensures.held c.update.ensures.kept c.self.invariant.0.removed;
       },
-      arrived_same t.alerts u t.sources c.self.invariant.1 c.swap_at-was_entered.ensures.places,
+      arrived_same t.alerts u t.sources c.self.invariant.1 c.swap_at.ensures.places,
     )
 
 pub returns-clause-former : goal.returns-clause-former
-returns-clause-former c = subst (λ (v : Numbered LabelSet Alert). IsValueOf label_set_cmp v c.args.number c.swap_at-was_entered.new.value) c.self.view_is c.swap_at-was_entered.ensures.former
-
-pub returns-clause-was_entered : goal.returns-clause-was_entered
-returns-clause-was_entered c = subst (λ (v : Numbered LabelSet Alert). IsMarkOf label_set_cmp v c.args.number c.swap_at-was_entered.result) c.self.view_is c.swap_at-was_entered.ensures.was_entered
+returns-clause-former c = subst (λ (v : Numbered LabelSet Alert). IsValueOf label_set_cmp v c.args.number c.swap_at.new.value) c.self.view_is c.swap_at.ensures.former
 
 pub returns-clause-shown : goal.returns-clause-shown
-returns-clause-shown c = subst (λ (v : Numbered LabelSet Alert). IsSetAt label_set_cmp v c.args.number c.args.alert.now c.swap_at-was_entered.new.self) c.self.view_is c.swap_at-was_entered.ensures.shown
+returns-clause-shown c = subst (λ (v : Numbered LabelSet Alert). IsSetAt label_set_cmp v c.args.number c.args.alert.now c.swap_at.new.self) c.self.view_is c.swap_at.ensures.shown
 
 pub returns-clause-places : goal.returns-clause-places
-returns-clause-places c = subst (λ (v : Numbered LabelSet Alert). SamePlaces label_set_cmp v c.swap_at-was_entered.new.self) c.self.view_is c.swap_at-was_entered.ensures.places
-
-pub returns-clause-entered : goal.returns-clause-entered
-returns-clause-entered c = subst (λ (v : Numbered LabelSet Alert). EntersAt label_set_cmp v c.args.number c.swap_at-was_entered.new.self) c.self.view_is c.swap_at-was_entered.ensures.entered
+returns-clause-places c = subst (λ (v : Numbered LabelSet Alert). SamePlaces label_set_cmp v c.swap_at.new.self) c.self.view_is c.swap_at.ensures.places

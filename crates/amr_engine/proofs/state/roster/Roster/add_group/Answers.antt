@@ -1,5 +1,5 @@
 use Rattle.std.proofs.Common.{◌≡◌, None, IsTrue, refl, sym, ap, subst, ◌∙◌, arith}
-use Rattle.amr_tables.specs.Numbered.{number_of, next_number, has_place, is_entered, GetsNumber}
+use Rattle.amr_tables.specs.Numbered.{number_of, next_number, has_place, GetsNumber}
 use Rattle.amr_config.specs.RouteLabels.{route_labels_cmp, route_labels_cmp_total, route_labels_cmp-IsAntisymmetric}
 use Rattle.amr_engine.specs.declared.state.due.Kind.TheVariants.{GroupRemoval, GroupFlush}
 use Rattle.amr_engine.specs.State.Rostered.{Rostered, IsGrouped}
@@ -56,9 +56,6 @@ invariant_of-self-in_err-number c =
       }),
     )
 
-pub returns-in_err-number-clause-entered : goal.returns-in_err-number-clause-entered
-returns-in_err-number-clause-entered c = λ other. c.make_place.ensures.entered other ∙ ap (λ (v : Rostered). is_entered route_labels_cmp v.timers other) c.self.view_is
-
 pub returns-in_err-number-clause-places : goal.returns-in_err-number-clause-places
 returns-in_err-number-clause-places c = λ other h. c.make_place.ensures.places other (subst (λ (v : Rostered). IsTrue (has_place route_labels_cmp v.timers other)) (sym c.self.view_is) h)
 
@@ -82,9 +79,6 @@ invariant_of-self-2 c =
         flushed = scheduled_placed route_labels_cmp_total route_labels_cmp-IsAntisymmetric (group_moment GroupFlush) r.timers c.make_place.new.self f key c.count_with_next.ensures.numbering c.make_place.ensures.numbering new gets c.make_place.ensures.values (omega (arith, c.in_ok-reserve.ensures.room, c.in_ok-count.ensures.count)) flushed;
       }),
     )
-
-pub returns-clause-entered : goal.returns-clause-entered
-returns-clause-entered c = λ other. c.make_place.ensures.entered other ∙ ap (λ (v : Rostered). is_entered route_labels_cmp v.timers other) c.self.view_is
 
 pub returns-clause-places : goal.returns-clause-places
 returns-clause-places c = λ other h. c.make_place.ensures.places other (subst (λ (v : Rostered). IsTrue (has_place route_labels_cmp v.timers other)) (sym c.self.view_is) h)

@@ -1,5 +1,5 @@
 use Rattle.std.proofs.Common.{◌≡◌, ◌++◌, ◌∷◌, [], false, None, Some, IsTrue, refl, sym, ap, subst, ◌∙◌, arith}
-use Rattle.amr_tables.specs.Numbered.{number_of, has_place, is_entered}
+use Rattle.amr_tables.specs.Numbered.{number_of, has_place}
 use Rattle.amr_config.specs.RouteLabels.{route_labels_cmp}
 use Rattle.amr_engine.specs.State.State.{group_key}
 use Rattle.amr_engine.specs.State.Rostered.{Rostered}
@@ -26,9 +26,6 @@ invariant_of-self-in_err-number c =
       c.self.invariant.1,
     )
 
-pub returns-in_err-number-clause-entered : goal.returns-in_err-number-clause-entered
-returns-in_err-number-clause-entered c = λ other. c.make_place.ensures.entered other ∙ ap (λ (v : Rostered). is_entered route_labels_cmp v.placements other) c.self.view_is
-
 pub returns-in_err-number-clause-places : goal.returns-in_err-number-clause-places
 returns-in_err-number-clause-places c = λ other h. c.make_place.ensures.places other (subst (λ (v : Rostered). IsTrue (has_place route_labels_cmp v.placements other)) (sym c.self.view_is) h)
 
@@ -47,9 +44,6 @@ invariant_of-self-2 c =
           (c.add.ensures.homes ∙ ap (λ l. l ++ c.args.home ∷ []) c.reserve.ensures.homes) (c.add.ensures.present ∙ ap (λ l. l ++ false ∷ []) c.reserve.ensures.present) (omega (arith, c.add.ensures.groups, c.reserve.ensures.groups)),
       c.self.invariant.1,
     )
-
-pub returns-clause-entered : goal.returns-clause-entered
-returns-clause-entered c = λ other. c.make_place.ensures.entered other ∙ ap (λ (v : Rostered). is_entered route_labels_cmp v.placements other) c.self.view_is
 
 pub returns-clause-places : goal.returns-clause-places
 returns-clause-places c = λ other h. c.make_place.ensures.places other (subst (λ (v : Rostered). IsTrue (has_place route_labels_cmp v.placements other)) (sym c.self.view_is) h)

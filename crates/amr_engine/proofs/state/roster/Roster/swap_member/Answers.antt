@@ -2,7 +2,7 @@ use Rattle.std.proofs.Common.{cond, length, sym, ap, subst, ◌∙◌, arith}
 use Rattle.std.specs.Prelude.{◌==◌}
 use Rattle.std.proofs.lemmas.List.{length-set}
 use Rattle.amr_tables.specs.Places.{is_marked}
-use Rattle.amr_tables.specs.Numbered.{number_of, IsNumber, IsValueOf, IsMarkOf, IsSetAt, SamePlaces}
+use Rattle.amr_tables.specs.Numbered.{number_of, IsNumber, IsValueOf, IsSetAt, SamePlaces}
 use Rattle.amr_config.specs.RouteLabels.{route_labels_cmp}
 use Rattle.amr_engine.specs.State.Rostered.{Rostered}
 use Rattle.amr_engine.proofs.StateLemmas.Rostering.{grouped_set}
@@ -31,9 +31,6 @@ invariant_of-self c =
 
 pub returns-clause-former : goal.returns-clause-former
 returns-clause-former c = subst (λ (v : Rostered). IsValueOf route_labels_cmp v.placements c.args.number c.swap_at.new.value) c.self.view_is c.swap_at.ensures.former
-
-pub returns-clause-was_entered : goal.returns-clause-was_entered
-returns-clause-was_entered c = subst (λ (v : Rostered). IsMarkOf route_labels_cmp v.placements c.args.number c.swap_at.result) c.self.view_is c.swap_at.ensures.was_entered
 
 pub returns-clause-shown : goal.returns-clause-shown
 returns-clause-shown c = subst (λ (v : Rostered). IsSetAt route_labels_cmp v.placements c.args.number c.args.alert.now c.swap_at.new.self) c.self.view_is c.swap_at.ensures.shown

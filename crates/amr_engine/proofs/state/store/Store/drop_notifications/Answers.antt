@@ -1,11 +1,7 @@
-use Rattle.std.proofs.Common.{ap, ◌∙◌}
-use Rattle.amr_engine.specs.State.Kept.{Kept}
 use Rattle.amr_engine.proofs.StateLemmas.Soundness.{kept_silent}
 use Rattle.amr_engine.proofs.state.store.Store.drop_notifications.Goals as goal
 
 pub invariant_of-self : goal.invariant_of-self
 invariant_of-self c =
-    let current = ap (λ (k : Kept). k.current) c.self.view_is ∙ c.requires.current in
-    let closed = ap (λ (k : Kept). k.records) c.self.view_is ∙ c.requires.records in
     let a = c.self.inside in
-    kept_silent a (record a { tables = record a.tables { notes = c.clear.new.self } }) c.self.invariant current closed
+    kept_silent a (record a { tables = record a.tables { notes = c.clear.new.self } }) c.self.invariant

@@ -13,29 +13,29 @@ pub invariant_of-self : goal.invariant_of-self
 invariant_of-self c =
     let placed = c.place_in_group.ensures in
     kept_roomier c.self.inside c.place_in_group.new.self c.self.inside.journal c.self.invariant
-    (record { values = placed.values; places = placed.places; marks = placed.marks; closed = refl; current = refl; room = refl })
+    (record { values = placed.values; places = placed.places; closed = refl; current = refl; room = refl })
 
 pub invariant_of-self-in_err-number-2 : goal.invariant_of-self-in_err-number-2
 invariant_of-self-in_err-number-2 c =
     let a = c.self.inside in
     let placed = c.place_in_group.ensures in
     kept_roomier a c.make_room.new.tables c.make_room.new.journal c.self.invariant
-    (placed_first a.tables c.place_in_group.new.self c.make_room.new.tables a.journal c.make_room.new.journal placed.values placed.places placed.marks c.make_room.ensures.roomier)
+    (placed_first a.tables c.place_in_group.new.self c.make_room.new.tables a.journal c.make_room.new.journal placed.values placed.places c.make_room.ensures.roomier)
 
 pub invariant_of-self-2 : goal.invariant_of-self-2
 invariant_of-self-2 c =
     let a = c.self.inside in
     let placed = c.place_in_group.ensures in
-    kept_put a c.make_room.new.tables c.enter.new.tables c.make_room.new.journal c.enter.new.journal (OfMember c.args.member (Some c.args.alert)) c.self.invariant
-    (placed_first a.tables c.place_in_group.new.self c.make_room.new.tables a.journal c.make_room.new.journal placed.values placed.places placed.marks c.make_room.ensures.roomier) tt
-    c.enter.ensures.state c.enter.ensures.entered c.in_ok-number-2.number c.in_ok-number-2.ensures.number c.enter.ensures.places
+    kept_put a c.make_room.new.tables c.enter.new.tables c.make_room.new.journal c.enter.new.journal (OfMember c.args.member (Some c.args.alert))
+    (placed_first a.tables c.place_in_group.new.self c.make_room.new.tables a.journal c.make_room.new.journal placed.values placed.places c.make_room.ensures.roomier) tt
+    c.enter.ensures.state c.enter.ensures.entered c.self.invariant c.in_ok-number-2.number c.in_ok-number-2.ensures.number c.enter.ensures.places
 
 pub returns-clause-kept : goal.returns-clause-kept
 returns-clause-kept c =
     let a = c.self.inside in
     let placed = c.place_in_group.ensures in
-    undone_put a c.make_room.new.tables c.enter.new.tables c.make_room.new.journal c.enter.new.journal (OfMember c.args.member (Some c.args.alert)) c.self.invariant
-    (placed_first a.tables c.place_in_group.new.self c.make_room.new.tables a.journal c.make_room.new.journal placed.values placed.places placed.marks c.make_room.ensures.roomier) tt
+    undone_put a c.make_room.new.tables c.enter.new.tables c.make_room.new.journal c.enter.new.journal (OfMember c.args.member (Some c.args.alert))
+    (placed_first a.tables c.place_in_group.new.self c.make_room.new.tables a.journal c.make_room.new.journal placed.values placed.places c.make_room.ensures.roomier) tt
     c.enter.ensures.state c.enter.ensures.entered ∙ ap before_open_record c.self.view_is
 
 pub returns-clause-timer : goal.returns-clause-timer

@@ -18,7 +18,7 @@ invariant_of-self-2 c =
     let change : Change = OfTimer c.in_ok-clone.field-0 (Some (record c.in-Some-Some.former { next_flush = c.args.next; flushed = true })) in
     let at : number_of route_labels_cmp a.tables.roster.timers c.args.group.now ≡ Some n =
     ap (λ t. number_of route_labels_cmp t c.args.group.now) (sym c.timers.ensures) ∙ sym c.look_up_number-number.ensures.number ∙ c.in-Some-Some.is-0 in
-    kept_changed mid b change n (kept_reserved a mid c.self.invariant refl c.reserve_entry.ensures.closed c.reserve_entry.ensures.current) tt
+    kept_changed mid b change n (kept_reserved a mid c.self.invariant c.reserve_entry.ensures.closed c.reserve_entry.ensures.current) tt
     (subst (λ k. number_of route_labels_cmp a.tables.roster.timers k ≡ Some n) (sym c.in_ok-clone.ensures.cases) at) c.enter.ensures.places c.enter.ensures.state c.enter.ensures.entered
 
 pub returns-clause-kept : goal.returns-clause-kept
@@ -28,5 +28,5 @@ returns-clause-kept c =
     let mid : Inside = record a { journal = j } in
     let b : Inside = record a { tables = c.enter.new.tables; journal = c.enter.new.journal } in
     let change : Change = OfTimer c.in_ok-clone.field-0 (Some (record c.in-Some-Some.former { next_flush = c.args.next; flushed = true })) in
-    undone_changed mid b change (kept_reserved a mid c.self.invariant refl c.reserve_entry.ensures.closed c.reserve_entry.ensures.current) tt c.enter.ensures.state c.enter.ensures.entered
+    undone_changed mid b change tt c.enter.ensures.state c.enter.ensures.entered
     ∙ undone_reserved a j c.reserve_entry.ensures.closed c.reserve_entry.ensures.current c.reserve_entry.ensures.records ∙ ap before_open_record c.self.view_is
