@@ -5,9 +5,9 @@ use Rattle.std.specs.Option.{option_cmp}
 use Rattle.std.specs.declared.cmp.Ordering.{Ordering}
 use Rattle.std.specs.declared.cmp.Ordering.TheVariants.{Less, Equal, Greater}
 use Rattle.std.specs.Ordering.{nat_cmp, eq_by_cmp, is_gt, is_eq, ordering_then}
-use Rattle.std.specs.Cmp.{IsTotalOrder, nat_cmp_total}
+use Rattle.std.specs.Cmp.{IsTotalOrder, nat_cmp_total, Equal-is}
 use Rattle.std.specs.FinMap.{find, IsAntisymmetric, nat_cmp-IsAntisymmetric}
-use Rattle.std.proofs.lemmas.Bool.{true≢false, cases_eq, false_from_ne_true}
+use Rattle.std.proofs.lemmas.Bool.{true≢false, and_parts, cases_eq, cond-false, false_from_ne_true}
 use Rattle.std.proofs.lemmas.Bool.Decides.{nat_tests}
 use Rattle.std.proofs.lemmas.Cmp.{tied_itself, tied_back}
 use Rattle.std.proofs.lemmas.Map.Views.{tells_apart}
@@ -32,7 +32,7 @@ use Rattle.amr_config.specs.RouteLabels.{on_route, route_labels_cmp, route_label
 use Rattle.amr_engine.specs.State.Dues.{Due, due_cmp, dues_of}
 use Rattle.amr_engine.specs.State.Timed.{IsScheduled, moments_in, alert_moment, group_moment, IsFirstOfKind}
 use Rattle.amr_engine.proofs.StateLemmas.Least.{sooner, alike, not_both}
-use Rattle.amr_engine.proofs.StateLemmas.Timing.{is_at, due_moment, alert_pick, members}
+use Rattle.amr_engine.proofs.StateLemmas.Timing.{is_at, is_due, members}
 
 pub not_none : {A : Type 0} (a : A) (P : Type 0) → Some a ≡ None → P
 not_none a P e = cc
@@ -40,6 +40,11 @@ not_none a P e = cc
 pub the_value : {A : Type 0} (x : Option A) → IsTrue (is_some x) → (a : A) × (x ≡ Some a)
 the_value None h = absurd (true≢false (sym h))
 the_value (Some a) h = (a, refl)
+
+-- a key that had a number keeps it when another gets one
+pub kept_number : {K V : Type 0} {R : K → K → Ordering} (exact : IsAntisymmetric R) (t u : Numbered K V) (k : K) (n : ℕ) → number_of R t k ≡ None → GetsNumber R t u k n → (key : K) (m : ℕ) → number_of R t key ≡ Some m → number_of R u key ≡ Some m
+kept_number {R = R} exact t u k n new gets key m at =
+    gets key ∙ cond-false (eq_by_cmp R key k) (Some n) (number_of R t key) (false_from_ne_true _ (λ same. not_none m ⊥ (sym at ∙ ap (number_of R t) (tells_apart exact key k same) ∙ new))) ∙ at
 
 -- a key with a value has a place
 pub placed : {K V : Type 0} {R : K → K → Ordering} (o : IsTotalOrder R) (exact : IsAntisymmetric R) (t : Numbered K V) → IsNumbering R t → (key : K) → IsTrue (is_some (get (map_of R t) key)) → IsTrue (has_place R t key)
@@ -104,11 +109,7 @@ module _ {K V : Type 0} {R : K → K → Ordering} (o : IsTotalOrder R) (exact :
       → IsScheduled R moment_of t e → IsScheduled R moment_of u e
   scheduled_placed t u e k before after new gets values roomy is =
       let n = next_number t in
-      let keeps : (key : K) (m : ℕ) → number_of R t key ≡ Some m → number_of R u key ≡ Some m = λ key m at.
-      gets key ∙ elim (eq_by_cmp R key k) as (λ b. eq_by_cmp R key k ≡ b → (if b then Some n else number_of R t key) ≡ Some m) [
-        | true ↦ λ same. not_none m _ (sym at ∙ ap (number_of R t) (tells_apart exact key k same) ∙ new)
-        | false ↦ λ _. at
-      ] refl in
+      let keeps = kept_number {R = R} exact t u k n new gets in
       record {
         named = λ m h. let key = is.named m h in (key.0, keeps key.0 m key.1);
         room = λ key m there. elim (eq_by_cmp R key k) as (λ b. (if b then Some n else number_of R t key) ≡ Some m → m < room e) [
@@ -202,15 +203,10 @@ at_itself n = ap is_eq (tied_itself nat_cmp_total n)
 
 module _ (a : Alerts) (c : Map route_labels_cmp GroupTimer) where
   -- when an alert's removal is due
-  alert_due : (n : ℕ) (kind : Kind) (route : ℕ) (labels : LabelSet) → kind ≡ AlertRemoval → IsTrue (is_at n (due_moment a c kind route labels)) → (nat_cmp route 0 ≡ Equal) × (alert_moment (get a labels) ≡ Some n)
-  alert_due n GroupRemoval route labels e h = absurd (cc)
-  alert_due n GroupFlush route labels e h = absurd (cc)
-  alert_due n AlertRemoval route labels e h = picked (nat_cmp route 0) refl h
-    where
-      picked : (z : Ordering) → nat_cmp route 0 ≡ z → IsTrue (is_at n (alert_pick AlertRemoval z (get a labels))) → (nat_cmp route 0 ≡ Equal) × (alert_moment (get a labels) ≡ Some n)
-      picked Less is h = absurd (true≢false (sym h))
-      picked Equal is h = (is, at_then n (alert_moment (get a labels)) h)
-      picked Greater is h = absurd (true≢false (sym h))
+  alert_due : (other : Due) → other.kind ≡ AlertRemoval → IsTrue (has due_cmp (dues_of a c) other) → (nat_cmp other.route 0 ≡ Equal) × (alert_moment (get a other.labels) ≡ Some other.moment)
+  alert_due other kind h =
+      let parts = and_parts _ _ (sym (ap (λ k. is_due a c other.moment k other.route other.labels) kind) ∙ sym (members a c other) ∙ h) in
+      ((Equal-is _).0 parts.0, at_then other.moment _ parts.1)
 
   pub first_alert : (labels : LabelSet) (moment : Moment) → IsFirstMoment label_set_cmp_total label_set_cmp-IsAntisymmetric alert_moment a labels moment
       → IsFirstOfKind AlertRemoval (dues_of a c) (Some (record { moment = moment; kind = AlertRemoval; route = 0; labels = labels }))
@@ -218,9 +214,9 @@ module _ (a : Alerts) (c : Map route_labels_cmp GroupTimer) where
       let due : Due = record { moment = moment; kind = AlertRemoval; route = 0; labels = labels } in (
         refl,
         (
-          members a c due ∙ ap (λ z. is_at moment (alert_pick AlertRemoval z (get a labels))) (tied_itself nat_cmp_total 0) ∙ ap (is_at moment) first.0 ∙ at_itself moment,
+          members a c due ∙ ap (is_at moment) first.0 ∙ at_itself moment,
           λ other kind h.
-              let is = alert_due other.moment other.kind other.route other.labels kind (sym (members a c other) ∙ h) in
+              let is = alert_due other kind h in
               elim (first.1 other.labels other.moment is.1) as (λ _. is_gt (due_cmp due other) ≡ false) [
                 | inl less ↦ sooner due other less
                 | inr tie ↦ alike due other tie.0 (sym kind) (ap (λ z. is_gt (ordering_then z (label_set_cmp labels other.labels))) (tied_back nat_cmp_total other.route 0 is.0) ∙ tie.1)
@@ -229,16 +225,16 @@ module _ (a : Alerts) (c : Map route_labels_cmp GroupTimer) where
       )
 
   pub no_alert : ((labels : LabelSet) (moment : Moment) → alert_moment (get a labels) ≡ Some moment → ⊥) → IsFirstOfKind AlertRemoval (dues_of a c) None
-  no_alert none = λ other kind. false_from_ne_true (has due_cmp (dues_of a c) other) (λ h. none other.labels other.moment (alert_due other.moment other.kind other.route other.labels kind (sym (members a c other) ∙ h)).1)
+  no_alert none = λ other kind. false_from_ne_true (has due_cmp (dues_of a c) other) (λ h. none other.labels other.moment (alert_due other kind h).1)
 
-  of_group : (kind : Kind) → kind ≢ AlertRemoval → (route : ℕ) (labels : LabelSet) → due_moment a c kind route labels ≡ group_moment kind (get c (on_route route labels))
-  of_group AlertRemoval never route labels = absurd (never refl)
-  of_group GroupRemoval never route labels = refl
-  of_group GroupFlush never route labels = refl
+  of_group : (kind : Kind) → kind ≢ AlertRemoval → (n : Moment) (route : ℕ) (labels : LabelSet) → is_due a c n kind route labels ≡ is_at n (group_moment kind (get c (on_route route labels)))
+  of_group AlertRemoval never n route labels = absurd (never refl)
+  of_group GroupRemoval never n route labels = refl
+  of_group GroupFlush never n route labels = refl
 
   group_due : (kind : Kind) → kind ≢ AlertRemoval → (other : Due) → other.kind ≡ kind → IsTrue (has due_cmp (dues_of a c) other) → group_moment kind (get c (on_route other.route other.labels)) ≡ Some other.moment
   group_due kind never other same h =
-      at_then other.moment _ (sym (ap (is_at other.moment) (ap (λ k. due_moment a c k other.route other.labels) same ∙ of_group kind never other.route other.labels)) ∙ sym (members a c other) ∙ h)
+      at_then other.moment _ (sym (ap (λ k. is_due a c other.moment k other.route other.labels) same ∙ of_group kind never other.moment other.route other.labels) ∙ sym (members a c other) ∙ h)
 
   pub first_group : (kind : Kind) → kind ≢ AlertRemoval → (group : RouteLabels) (moment : Moment) → IsFirstMoment route_labels_cmp_total route_labels_cmp-IsAntisymmetric (group_moment kind) c group moment
       → IsFirstOfKind kind (dues_of a c) (Some (record { moment = moment; kind = kind; route = group.route; labels = group.labels }))
@@ -246,7 +242,7 @@ module _ (a : Alerts) (c : Map route_labels_cmp GroupTimer) where
       let due : Due = record { moment = moment; kind = kind; route = group.route; labels = group.labels } in (
         refl,
         (
-          members a c due ∙ ap (is_at moment) (of_group kind never group.route group.labels ∙ first.0) ∙ at_itself moment,
+          members a c due ∙ of_group kind never moment group.route group.labels ∙ ap (is_at moment) first.0 ∙ at_itself moment,
           λ other same h.
               elim (first.1 (on_route other.route other.labels) other.moment (group_due kind never other same h)) as (λ _. is_gt (due_cmp due other) ≡ false) [
                 | inl less ↦ sooner due other less
