@@ -1,5 +1,5 @@
 -- The members of groups by number, how a change of one of them goes on, and the members of a group.
-use Rattle.std.proofs.Common.{◌≡◌, ◌≢◌, ◌≤◌, ◌<◌, ℕ, Bool, true, false, IsTrue, cond, ◌||◌, ◌&&◌, T, List, [], ◌∷◌, Option, Some, None, is_some, map, length, get_or, ◌++◌, ◌+◌, refl, sym, ap, subst, ◌∙◌, arith}
+use Rattle.std.proofs.Common.{◌≡◌, ◌≤◌, ◌<◌, ℕ, Bool, true, false, IsTrue, cond, ◌||◌, ◌&&◌, T, List, [], ◌∷◌, Option, Some, None, is_some, map, length, get_or, ◌++◌, ◌+◌, refl, sym, ap, subst, ◌∙◌, arith}
 use Rattle.std.specs.Prelude.{◌==◌, slice_get, option_map, option_and_then, if◌then◌else◌, IsPermutation}
 use Rattle.std.specs.List.{All, AllByRecursion, IsDistinct, list_any, filter, filter_map, cons_option}
 use Rattle.std.specs.List.Sorted.{IsStrictlySortedBy, IsSortedBy}
@@ -9,7 +9,7 @@ use Rattle.std.specs.Ordering.{nat_cmp, eq_by_cmp, is_eq, is_lt, ordering_then}
 use Rattle.std.specs.Cmp.{nat_cmp_total, eq_by_cmp_equiv, tied_itself, both_ways}
 use Rattle.std.specs.FinMap.{find, is_sorted}
 use Rattle.std.specs.FinMap.Entries.{below_all, is_some-find}
-use Rattle.std.proofs.lemmas.Bool.{true≢false, and_from, or_right, false_from_ne_true, and_parts}
+use Rattle.std.proofs.lemmas.Bool.{true≢false, eq-eqb, eqb-true, and_from, or_right, false_from_ne_true, and_parts}
 use Rattle.std.proofs.lemmas.Bool.Decides.{nat_tests}
 use Rattle.std.proofs.lemmas.List.Elements.{All-nil, All-cons, All-head, All-tail}
 use Rattle.std.proofs.lemmas.List.Sorted.{All-permutation, IsPermutation-map, list_any-IsPermutation}
@@ -37,7 +37,7 @@ use Rattle.amr_config.specs.declared.route_labels.RouteLabels.{RouteLabels}
 use Rattle.amr_config.specs.RouteLabels.{on_route, route_labels_cmp, route_labels_cmp_total, route_labels_cmp-IsAntisymmetric}
 use Rattle.amr_engine.specs.State.State.{group_key, members_among}
 use Rattle.amr_engine.specs.State.Rostered.{member_at, IsGrouped}
-use Rattle.amr_engine.proofs.StateLemmas.Scheduling.{not_none, the_value}
+use Rattle.amr_engine.proofs.StateLemmas.Scheduling.{not_none, the_value, kept_number}
 
 -- ---- truth values
 
@@ -47,10 +47,7 @@ tied_key k other e = tells_apart route_labels_cmp-IsAntisymmetric other k e
 -- each number of a list has what each that is among it has
 all_among : (P : ℕ → Type 0) (ns : List ℕ) → ((n : ℕ) → IsTrue (list_any (λ m. n == m) ns) → P n) → AllByRecursion P ns
 all_among P [] h = tt
-all_among P (x ∷ ns) h = (h x (ap (λ b. b || list_any (λ m. x == m) ns) (itself x)), all_among P ns (λ n e. h n (or_right (n == x) _ e)))
-  where
-    itself : (n : ℕ) → (n == n) ≡ true
-    itself n = grind (arith, nat_tests)
+all_among P (x ∷ ns) h = (h x (ap (λ b. b || list_any (λ m. x == m) ns) (eq-eqb x x refl)), all_among P ns (λ n e. h n (or_right (n == x) _ e)))
 
 -- ---- places and numbers
 
@@ -59,14 +56,6 @@ the_number : {V : Type 0} (t : Numbered RouteLabels V) → IsNumbering route_lab
 the_number t is key h =
     let value = the_value (get (map_of route_labels_cmp t) key) h in
     number_of_value route_labels_cmp_total route_labels_cmp-IsAntisymmetric t is key value.0 value.1
-
--- a key that had a number keeps it when another gets one
-kept_number : {V : Type 0} (t u : Numbered RouteLabels V) (k : RouteLabels) (n : ℕ) → number_of route_labels_cmp t k ≡ None → GetsNumber route_labels_cmp t u k n → (key : RouteLabels) (m : ℕ) → number_of route_labels_cmp t key ≡ Some m → number_of route_labels_cmp u key ≡ Some m
-kept_number t u k n new gets key m at =
-    gets key ∙ elim (eq_by_cmp route_labels_cmp key k) as (λ b. eq_by_cmp route_labels_cmp key k ≡ b → (if b then Some n else number_of route_labels_cmp t key) ≡ Some m) [
-      | true ↦ λ same. not_none m _ (sym at ∙ ap (number_of route_labels_cmp t) (tied_key k key same) ∙ new)
-      | false ↦ λ _. at
-    ] refl
 
 -- a key with a number had it, or is the one that got it
 module _ {V : Type 0} (t u : Numbered RouteLabels V) (k : RouteLabels) (n : ℕ) (gets : GetsNumber route_labels_cmp t u k n) (P : RouteLabels → ℕ → Type 0) (own : P k n) (others : (key : RouteLabels) (m : ℕ) → number_of route_labels_cmp t key ≡ Some m → P key m) where
@@ -117,23 +106,18 @@ module _ (config : Config) (a : Numbered RouteLabels Alert) (gs : Numbered Route
       value other = ap (λ (s : Map route_labels_cmp Alert). get s other) shows ∙ get-set route_labels_cmp_total (map_of route_labels_cmp a) key w other
 
       by_number_now : (x : ℕ) (t : Bool) → (x == n) ≡ t → IsTrue (cond t (is_some w) (is_marked m.present x)) → IsNumber route_labels_cmp b x
-      by_number_now x true e marked = let same : n ≡ x = grind (arith, nat_tests, e) in (key, ap (find route_labels_cmp key) numbers ∙ at ∙ ap (λ n. Some n) same)
+      by_number_now x true e marked = (key, ap (find route_labels_cmp key) numbers ∙ at ∙ ap (λ n. Some n) (sym (eqb-true x n e)))
       by_number_now x false e marked = let by = is.named x marked in (by.0, ap (find route_labels_cmp by.0) numbers ∙ by.1)
 
       by_key : (other : RouteLabels) (x : ℕ) → number_of route_labels_cmp a other ≡ Some x → cond (x == n) (is_some w) (is_marked m.present x) ≡ is_some (cond (eq_by_cmp route_labels_cmp other key) w (get (map_of route_labels_cmp a) other))
       by_key other x there =
-          elim (eq_by_cmp route_labels_cmp other key) as (λ y. eq_by_cmp route_labels_cmp other key ≡ y → cond (x == n) (is_some w) (is_marked m.present x) ≡ is_some (cond y w (get (map_of route_labels_cmp a) other))) [
-            | true ↦ λ same.
-                let number : n ≡ x = same_Some n x (sym at ∙ ap (number_of route_labels_cmp a) (sym (tied_key key other same)) ∙ there) in
-                ap (λ b. cond b (is_some w) (is_marked m.present x)) (let here : (x == n) ≡ true = grind (arith, nat_tests, number) in here)
-            | false ↦ λ other_key.
-                ap (λ b. cond b (is_some w) (is_marked m.present x)) (apart (x == n) refl (λ e. true≢false (sym (ap is_eq (tied_itself route_labels_cmp_total key)) ∙ ap (λ (r : RouteLabels). eq_by_cmp route_labels_cmp r key) (one_key route_labels_cmp_total route_labels_cmp-IsAntisymmetric a is.numbering key other n at (there ∙ ap (λ n. Some n) e)) ∙ other_key)))
-                ∙ is.present other x there
-          ] refl
+          ap (λ t. cond t (is_some w) (is_marked m.present x)) tells
+          ∙ elim (eq_by_cmp route_labels_cmp other key) as (λ y. cond y (is_some w) (is_marked m.present x) ≡ is_some (cond y w (get (map_of route_labels_cmp a) other))) [ true ↦ refl | false ↦ is.present other x there ]
         where
-          apart : (t : Bool) → (x == n) ≡ t → (x ≡ n → ⊥) → t ≡ false
-          apart true e never = absurd (never (grind (arith, nat_tests, e)))
-          apart false e never = refl
+          tells : (x == n) ≡ eq_by_cmp route_labels_cmp other key
+          tells = both_ways _ _
+              (λ e. ap (λ (r : RouteLabels). eq_by_cmp route_labels_cmp r key) (sym (one_key route_labels_cmp_total route_labels_cmp-IsAntisymmetric a is.numbering key other n at (there ∙ ap (λ n. Some n) (eqb-true x n e)))) ∙ ap is_eq (tied_itself route_labels_cmp_total key))
+              (λ same. eq-eqb x n (same_Some x n (sym there ∙ ap (number_of route_labels_cmp a) (tied_key key other same) ∙ at)))
 
   -- a place for a member is made, of a group
   pub grouped_placed : (b : Numbered RouteLabels Alert) (k : Grouped) (key : RouteLabels) (g : ℕ) → IsNumbering route_labels_cmp b → number_of route_labels_cmp a key ≡ None → GetsNumber route_labels_cmp a b key (next_number a) → next_number b ≡ next_number a + 1 → map_of route_labels_cmp b ≡ map_of route_labels_cmp a
@@ -146,7 +130,7 @@ module _ (config : Config) (a : Numbered RouteLabels Alert) (gs : Numbered Route
         (λ other n at. is.home other n at ∙ sym (home_now n ∙ ap (λ b. cond b (Some g) (slice_get m.homes n)) (let less = home_within other n at in let here : (n == length m.homes) ≡ false = grind (arith, nat_tests, less) in here)));
     present = λ other n at. present_now n ∙ by_number a b key (next_number a) gets (λ other n. is_marked m.present n ≡ is_some (get (map_of route_labels_cmp a) other)) (nobody ∙ sym no_value) is.present other n at
         ∙ ap (λ (s : Map route_labels_cmp Alert). is_some (get s other)) (sym shows);
-    named = λ n marked. let by = is.named n (sym (present_now n) ∙ marked) in (by.0, kept_number a b key (next_number a) new gets by.0 n by.1);
+    named = λ n marked. let by = is.named n (sym (present_now n) ∙ marked) in (by.0, kept_number route_labels_cmp-IsAntisymmetric a b key (next_number a) new gets by.0 n by.1);
     groups = omega (arith, is.groups, rooms);
   }
     where
@@ -169,7 +153,7 @@ module _ (config : Config) (a : Numbered RouteLabels Alert) (gs : Numbered Route
     homes = is.homes;
     home = λ k n at.
         let own = slice_get-get_or m.homes n 0 (home_within k n at) in
-        kept_number gs hs key (next_number gs) new gets (group_key config k) (get_or m.homes n 0) (is.home k n at ∙ own) ∙ sym own;
+        kept_number route_labels_cmp-IsAntisymmetric gs hs key (next_number gs) new gets (group_key config k) (get_or m.homes n 0) (is.home k n at ∙ own) ∙ sym own;
     present = is.present;
     named = is.named;
     groups = room;
