@@ -1,21 +1,23 @@
 -- What the table of silences caches of label sets: nothing at first, then more, and less after
 -- each change of a silence.
-use Rattle.std.proofs.Common.{◌≡◌, ◌≤◌, ◌<◌, ◌+◌, ℕ, Bool, true, false, cond, List, [], ◌∷◌, ◌++◌, length, get_or, map, Bor, Option, Some, None, arith, refl, sym, ap, subst, ◌∙◌}
+use Rattle.std.proofs.Common.{◌≡◌, ◌&&◌, ◌≤◌, ◌<◌, ◌+◌, ℕ, Bool, true, false, cond, List, [], ◌∷◌, ◌++◌, length, get_or, map, Bor, Option, Some, None, arith, refl, sym, ap, subst, ◌∙◌}
 use Rattle.std.specs.Prelude.{◌==◌, IfSome}
 use Rattle.std.proofs.lemmas.Bool.Decides.{nat_tests}
-use Rattle.std.proofs.lemmas.List.{get_or-map, length-map}
+use Rattle.std.proofs.lemmas.List.{get_or-map, length-map, map-append}
 use Rattle.std.proofs.Common.{length-append}
 use Rattle.std.proofs.Math.ListN.{get_or-append}
 use Rattle.std.proofs.Math.Seq.{get_or-append_seam}
-use Rattle.std.specs.declared.cmp.Ordering.TheVariants.{Less, Equal, Greater}
+use Rattle.std.specs.declared.cmp.Ordering.TheVariants.{Equal}
 use Rattle.std.specs.List.{filter, filter_map}
 use Rattle.std.specs.Slice.{IsItemAt}
-use Rattle.std.proofs.lemmas.List.Elements.{All-nil, All-weaker}
-use Rattle.std.specs.Ordering.{is_eq, nat_cmp}
+use Rattle.std.proofs.lemmas.List.Elements.{All-nil, All-weaker, filter_agree}
+use Rattle.std.specs.Ordering.{is_eq, eq_by_cmp, nat_cmp}
 use Rattle.std.specs.declared.cmp.Ordering.{Ordering}
 use Rattle.std.specs.Cmp.{nat_cmp_total, tied_itself}
 use Rattle.std.specs.FinMap.{nat_cmp-IsAntisymmetric}
-use Rattle.std.proofs.lemmas.Bool.{true≢false}
+use Rattle.std.proofs.lemmas.Bool.{true≢false, eqb-true, cond-false, false_from_ne_true}
+use Rattle.std.proofs.Math.Bool.{and_comm}
+use Rattle.std.proofs.lemmas.Map.Views.{tells_apart}
 use Rattle.amr_labels.specs.Map.{entries, empty, from_sorted, entries-from_sorted, same_entries_map, get, set, retain_keys, entries-retain_keys, get-set, get-retain_keys, same_map}
 use Rattle.amr_labels.specs.Labels.{LabelSet}
 use Rattle.amr_labels.specs.Matcher.ValueBits.{value_bits}
@@ -30,28 +32,33 @@ use Rattle.amr_engine.specs.declared.indexes.cached_periods.CachedPeriods.{Cache
 use Rattle.amr_engine.specs.declared.indexes.silence_change.SilenceChange.{SilenceChange}
 use Rattle.amr_engine.specs.Indexes.CachedSilences.{periods_picked, PicksNone, change_of, changed_ids, AreNoted, IsCached, AreCached, SameOthers}
 
-none_before_zero : (i : ℕ) → i < 0 → ⊥
-none_before_zero i lt = omega arith
-
-pub same_number : (a b : ℕ) → (a == b) ≡ true → a ≡ b
-same_number a b same = grind (arith, nat_tests)
-
 not_last : (i n : ℕ) → (i == n) ≡ false → i < n + 1 → i < n
 not_last i n apart lt = grind (arith, nat_tests)
 
--- filtering before and after a map
-one_more : {X Y : Type 0} (may : X → Bool) (keep : Y → Bool) (h : X → Y) (m k : Bool) (e : X) (f w : List X) → may e ≡ m → keep (h e) ≡ k
-    → filter keep (map h f) ≡ map h (filter may w) → filter keep (map h (cond m (e ∷ f) f)) ≡ map h (filter may (cond k (e ∷ w) w))
-one_more may keep h true true e f w p q ih =
-    ap (λ b. cond b (h e ∷ filter keep (map h f)) (filter keep (map h f))) q ∙ ap (λ l. h e ∷ l) ih
-    ∙ sym (ap (λ b. map h (cond b (e ∷ filter may w) (filter may w))) p)
-one_more may keep h true false e f w p q ih = ap (λ b. cond b (h e ∷ filter keep (map h f)) (filter keep (map h f))) q ∙ ih
-one_more may keep h false true e f w p q ih = ih ∙ sym (ap (λ b. map h (cond b (e ∷ filter may w) (filter may w))) p)
-one_more may keep h false false e f w p q ih = ih
+-- ---- two tests, one after the other
 
+pub filter_both : {X : Type 0} (f g : X → Bool) (xs : List X) → filter f (filter g xs) ≡ filter (λ x. g x && f x) xs
+filter_both f g [] = refl
+filter_both f g (x ∷ xs) = elim (g x) as (λ b. filter f (cond b (x ∷ filter g xs) (filter g xs)) ≡ cond (b && f x) (x ∷ filter (λ x. g x && f x) xs) (filter (λ x. g x && f x) xs)) [
+  | true ↦ ap (λ l. cond (f x) (x ∷ l) l) (filter_both f g xs)
+  | false ↦ filter_both f g xs
+]
+
+pub filters_alike : {X : Type 0} (f g h k : X → Bool) → ((x : X) → (g x && f x) ≡ (k x && h x)) → (xs : List X) → filter f (filter g xs) ≡ filter h (filter k xs)
+filters_alike f g h k same xs = filter_both f g xs ∙ filter_agree (λ x. g x && f x) (λ x. k x && h x) same xs ∙ sym (filter_both h k xs)
+
+filter_mapped : {X Y : Type 0} (keep : Y → Bool) (h : X → Y) (xs : List X) → filter keep (map h xs) ≡ map h (filter (λ x. keep (h x)) xs)
+filter_mapped keep h [] = refl
+filter_mapped keep h (x ∷ xs) = elim (keep (h x)) as (λ b. cond b (h x ∷ filter keep (map h xs)) (filter keep (map h xs)) ≡ map h (cond b (x ∷ filter (λ x. keep (h x)) xs) (filter (λ x. keep (h x)) xs))) [
+  | true ↦ ap (λ l. h x ∷ l) (filter_mapped keep h xs)
+  | false ↦ filter_mapped keep h xs
+]
+
+-- filtering before and after a map
 pub filters_swap : {X Y : Type 0} (may : X → Bool) (keep : Y → Bool) (h : X → Y) (es : List X) → filter keep (map h (filter may es)) ≡ map h (filter may (filter (λ e. keep (h e)) es))
-filters_swap may keep h [] = refl
-filters_swap may keep h (e ∷ es) = one_more may keep h (may e) (keep (h e)) e (filter may es) (filter (λ x. keep (h x)) es) refl refl (filters_swap may keep h es)
+filters_swap may keep h es = filter_mapped keep h (filter may es) ∙ ap (map h) (filters_alike (λ e. keep (h e)) may may (λ e. keep (h e)) (λ e. and_comm (may e) (keep (h e))) es)
+
+-- ---- the silences that a test picks
 
 picked_periods : (test : ℕ → Bool) (from : Moment) (labels : LabelSet) (silences : Silences) → periods_picked test (silence_periods from labels silences) ≡ silence_periods from labels (retain_keys silences test)
 picked_periods test from labels silences =
@@ -75,12 +82,7 @@ same_picked test from labels id old changed same unpicked =
 -- setting a silence changes no other
 set_others : (id : ℕ) (old : Silences) (silence : Option Silence) → SameOthers id old (set old id silence)
 set_others id old silence = λ other apart.
-    get-set nat_cmp_total old id silence other
-    ∙ elim (nat_cmp other id) as (λ o. nat_cmp other id ≡ o → cond (is_eq o) silence (get old other) ≡ get old other) [
-      | Less ↦ λ tie. refl
-      | Equal ↦ λ tie. absurd (apart (nat_cmp-IsAntisymmetric other id tie))
-      | Greater ↦ λ tie. refl
-    ] refl
+    get-set nat_cmp_total old id silence other ∙ cond-false (eq_by_cmp nat_cmp other id) silence (get old other) (false_from_ne_true _ (λ e. apart (tells_apart nat_cmp-IsAntisymmetric other id e)))
 
 -- and the silence with the id is the one that was set
 set_own : (id : ℕ) (old : Silences) (silence : Option Silence) → get (set old id silence) id ≡ silence
@@ -117,8 +119,7 @@ still_at old changed changes id same None was = tt
 still_at old changed changes id same (Some found) was = one_less old changed changes found id was same
 
 one_more_id : (changes : List SilenceChange) (change : SilenceChange) → changed_ids (changes ++ change ∷ []) ≡ changed_ids changes ++ change.id ∷ []
-one_more_id [] change = refl
-one_more_id (first ∷ changes) change = ap (λ l. first.id ∷ l) (one_more_id changes change)
+one_more_id changes change = map-append (λ (c : SilenceChange). c.id) changes (change ∷ [])
 
 pub cached_still : (old changed : Silences) (changes : List SilenceChange) (cached : List (Option CachedPeriods)) (change : SilenceChange) → SameOthers change.id old changed
     → AreCached old (changed_ids changes) cached → AreCached changed (changed_ids (changes ++ change ∷ [])) cached
@@ -137,7 +138,7 @@ noted_more old changed changes change same own was =
       latest = λ i one test lt is picks none.
           elim (i == length changes) as (λ b. (i == length changes) ≡ b → one ≡ change_of one.id (get changed one.id)) [
             | true ↦ λ last.
-                let at_end : one ≡ change = sym is ∙ ap (λ (n : ℕ). get_or (changes ++ change ∷ []) n one) (same_number i (length changes) last) ∙ get_or-append_seam changes change [] one in
+                let at_end : one ≡ change = sym is ∙ ap (λ (n : ℕ). get_or (changes ++ change ∷ []) n one) (eqb-true i (length changes) last) ∙ get_or-append_seam changes change [] one in
                 subst (λ (c : SilenceChange). c ≡ change_of c.id (get changed c.id)) (sym at_end) own
             | false ↦ λ apart.
                 let before : i < length changes = not_last i (length changes) apart (omega arith) in
@@ -155,7 +156,7 @@ noted_more old changed changes change same own was =
     }
 
 pub none_noted : (silences : Silences) (changes : List SilenceChange) → changes ≡ [] → AreNoted silences changes
-none_noted silences changes none = record { latest = λ i one test lt is picks later. absurd (none_before_zero i (subst (λ (l : List SilenceChange). i < length l) none lt)) }
+none_noted silences changes none = record { latest = λ i one test lt is picks later. let before : i < 0 = subst (λ (l : List SilenceChange). i < length l) none lt in absurd (omega arith) }
 
 pub none_cached : (silences : Silences) (changes : List ℕ) (cached : List (Option CachedPeriods)) → cached ≡ [] → AreCached silences changes cached
 none_cached silences changes cached none = subst (AreCached silences changes) (sym none) (All-nil (λ place. IfSome place (IsCached silences changes)))

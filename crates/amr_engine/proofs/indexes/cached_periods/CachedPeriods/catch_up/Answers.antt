@@ -8,6 +8,7 @@ use Rattle.amr_engine.specs.declared.indexes.cached_periods.CachedPeriods.{Cache
 use Rattle.amr_engine.specs.declared.indexes.silence_change.SilenceChange.{SilenceChange}
 use Rattle.amr_engine.specs.Indexes.CachedSilences.{changed_ids, passed_by, IsCached}
 use Rattle.amr_engine.proofs.IndexesLemmas.CaughtUp.{left_out, all_passed, passed_on, caught_up}
+use Rattle.amr_engine.proofs.indexes.cached_periods.CachedPeriods.catch_up.Goals.{After-pass_over}
 use Rattle.amr_engine.proofs.indexes.cached_periods.CachedPeriods.catch_up.Goals as goal
 
 pub loop-turn-init : goal.loop-turn-init
@@ -17,6 +18,10 @@ loop-turn-init c =
     let le : c.leave_out_ended.new.self.from ≤ c.args.at = omega arith in
     (omega arith, refl, le, left_out (map_of nat_cmp c.args.silences.now) (changed_ids c.args.changes.now) c.args.self.now c.leave_out_ended.new.self c.args.at c.requires.cached c.requires.before left)
 
+-- what was passed over leaves what is cached right
+still : (c : After-pass_over) → IsCached (map_of nat_cmp c.args.silences.now) (changed_ids c.args.changes.now) c.pass_over.new.self
+still c = all_passed (map_of nat_cmp c.args.silences.now) c.args.changes.now c.loop-turn.self c.pass_over.new.self c.requires.noted c.loop-turn.invariant.3 c.pass_over.ensures
+
 pub loop-turn-preserved : goal.loop-turn-preserved
 loop-turn-preserved c =
     let silences : Silences = map_of nat_cmp c.args.silences.now in
@@ -24,7 +29,6 @@ loop-turn-preserved c =
     let changes = c.args.changes.now in
     let passed : CachedPeriods = c.pass_over.new.self in
     let passed_is : passed ≡ passed_by changes cached = c.pass_over.ensures in
-    let still : IsCached silences (changed_ids changes) passed = all_passed silences changes cached passed c.requires.noted c.loop-turn.invariant.3 passed_is in
     let noted = c.in_ok-take_in.ensures.noted in
     let from : c.take_in.new.self.from ≡ passed.from = ap (λ (k : CachedPeriods). k.from) noted in
     let same_from : passed.from ≡ cached.from = ap (λ (k : CachedPeriods). k.from) passed_is in
@@ -39,27 +43,21 @@ loop-turn-preserved c =
       omega arith,
       ap (λ (k : CachedPeriods). k.labels) noted ∙ ap (λ (k : CachedPeriods). k.labels) passed_is ∙ c.loop-turn.invariant.1,
       le,
-      caught_up silences changes passed change after c.requires.noted still more is
+      caught_up silences changes passed change after c.requires.noted (still (goal.at.loop-turn-preserved c).After-pass_over) more is
           (λ i. record { labels = (noted i).labels; bits = (noted i).bits; from = (noted i).from; version = passed.version + 1; periods = (noted i).periods }),
     )
 
 pub returns-then-self-changes-2-clause-cached : goal.returns-then-self-changes-2-clause-cached
-returns-then-self-changes-2-clause-cached c =
-    all_passed (map_of nat_cmp c.args.silences.now) c.args.changes.now c.loop-turn.self c.pass_over.new.self c.requires.noted c.loop-turn.invariant.3 c.pass_over.ensures
+returns-then-self-changes-2-clause-cached c = still (goal.at.returns-then-self-changes-2-clause-cached c).After-pass_over
 
 pub returns-then-self-changes-2-clause-version : goal.returns-then-self-changes-2-clause-version
 returns-then-self-changes-2-clause-version c =
     let changes = c.args.changes.now in
-    let cached : IsCached (map_of nat_cmp c.args.silences.now) (changed_ids changes) c.pass_over.new.self =
-    all_passed (map_of nat_cmp c.args.silences.now) changes c.loop-turn.self c.pass_over.new.self c.requires.noted c.loop-turn.invariant.3 c.pass_over.ensures in
-    let within : c.pass_over.new.self.version ≤ length (changed_ids changes) = cached.version in
+    let within = (still (goal.at.returns-then-self-changes-2-clause-version c).After-pass_over).version in
     let count : length (changed_ids changes) ≡ length changes = length-map changes (λ (change : SilenceChange). change.id) in
     let all : length changes ≤ c.pass_over.new.self.version = first_of (search rules, grind (arith, common_steps)) in
     omega arith
 
 pub returns-in_err-take_in-clause-cached : goal.returns-in_err-take_in-clause-cached
 returns-in_err-take_in-clause-cached c =
-    let silences : Silences = map_of nat_cmp c.args.silences.now in
-    let changes = c.args.changes.now in
-    subst (λ (k : CachedPeriods). IsCached silences (changed_ids changes) k) (sym c.in_err-take_in.ensures.err)
-    (all_passed silences changes c.loop-turn.self c.pass_over.new.self c.requires.noted c.loop-turn.invariant.3 c.pass_over.ensures)
+    subst (λ (k : CachedPeriods). IsCached (map_of nat_cmp c.args.silences.now) (changed_ids c.args.changes.now) k) (sym c.in_err-take_in.ensures.err) (still (goal.at.returns-in_err-take_in-clause-cached c).After-pass_over)
