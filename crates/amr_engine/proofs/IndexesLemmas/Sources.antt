@@ -1,6 +1,7 @@
 -- What the sides of inhibition rules list, and how they take in label sets.
 use Rattle.std.proofs.Common.{◌≡◌, ℕ, ◌+◌, ◌<◌, ◌≤◌, Bool, true, false, cond, ◌||◌, ◌&&◌, T, List, [], ◌∷◌, Option, Some, None, map, length, take, refl, sym, ap, ◌∙◌, IsTrue, is_some, arith}
 use Rattle.std.specs.Prelude.{◌==◌, bit_or, Result, Ok, Err, OnOk, OnErr, option_map, unwrap_or}
+use Rattle.std.proofs.Math.Bool.{or-false, or_self, and-true, and-false}
 use Rattle.std.proofs.Math.ListN.{get_or}
 use Rattle.std.specs.List.{cons_option, filter_map}
 use Rattle.std.specs.Ordering.{eq_by_cmp, is_lt}
@@ -24,7 +25,6 @@ use Rattle.amr_rules.specs.declared.alert.Alert.{Alert}
 use Rattle.amr_rules.specs.Muting.{Alerts, agree_on, sources_of}
 use Rattle.amr_tables.specs.Numbered.{map_of, next_number, entry_at}
 use Rattle.amr_tables.specs.Members.{has}
-use Rattle.amr_engine.specs.declared.indexes.rule_source.SourceSide.{SourceSide}
 use Rattle.amr_engine.specs.declared.indexes.rule_source.CachedSide.{CachedSide}
 use Rattle.amr_engine.specs.Indexes.LabelValues.{values_cmp, values_cmp_total, values_cmp-IsAntisymmetric, label_values}
 use Rattle.amr_engine.specs.Indexes.RuleSources.{ByValues, bits_of, is_in, is_under, is_source, ListsSide, IsSideOf, IsPut, IsListedToo, ListsSame, ListsAgreeing, stored_of}
@@ -45,9 +45,9 @@ unmatched arrived bits n required labels matchers is lt at asked lacks =
 
 -- ---- a label set is listed under values
 
-some_or : (b : Bool) (x : Option (Unit {0})) → is_some (cond b (Some tt) x) ≡ (b || is_some x)
-some_or true x = refl
-some_or false x = refl
+some_or : {A : Type 0} (b : Bool) (a : A) (x : Option A) → is_some (cond b (Some a) x) ≡ (b || is_some x)
+some_or true a x = refl
+some_or false a x = refl
 
 in_or_empty : (found : Option (Set label_set_cmp)) (other : LabelSet) → contains (unwrap_or found empty) other ≡ is_in found other
 in_or_empty None other = ap is_some (get-empty label_set_cmp other)
@@ -72,7 +72,7 @@ module _ (old gone changed : ByValues) (values : List Text) (listed : Set label_
         → is_in (cond same (Some listed) (get (map_of values_cmp old) under)) other ≡ ((same && eq_by_cmp label_set_cmp other labels) || is_under old under other)
     one_more labels grown under other true same =
         ap (λ m. contains m other) grown ∙ ap is_some (get-insert label_set_cmp_total was labels tt other)
-        ∙ some_or (eq_by_cmp label_set_cmp other labels) (get was other) ∙ ap (λ b. eq_by_cmp label_set_cmp other labels || b) (was_under under other same)
+        ∙ some_or (eq_by_cmp label_set_cmp other labels) tt (get was other) ∙ ap (λ b. eq_by_cmp label_set_cmp other labels || b) (was_under under other same)
     one_more labels grown under other false same = refl
 
     no_more : listed ≡ was → (under : List Text) (other : LabelSet) (same : Bool) → eq_by_cmp values_cmp under values ≡ same
@@ -80,43 +80,17 @@ module _ (old gone changed : ByValues) (values : List Text) (listed : Set label_
     no_more kept under other true same = ap (λ m. contains m other) kept ∙ was_under under other same
     no_more kept under other false same = refl
 
-    -- the set under the values takes in a label set
-    pub listed_too : {A E : Type 0} (r : Result A E) (labels : LabelSet) → OnOk r (listed ≡ insert was labels tt) → OnOk r (IsListedToo values labels old changed)
-    listed_too (Ok _) labels grown = λ under other. ap (λ found. is_in found other) (replaced under) ∙ one_more labels grown under other (eq_by_cmp values_cmp under values) refl
-    listed_too (Err _) labels grown = tt
-
-    -- or it stays as it was
-    pub listed_same : {A E : Type 0} (r : Result A E) → OnErr r (listed ≡ was) → OnErr r (ListsSame old changed)
-    listed_same (Ok _) kept = tt
-    listed_same (Err _) kept = λ under other. ap (λ found. is_in found other) (replaced under) ∙ no_more kept under other (eq_by_cmp values_cmp under values) refl
+    -- the set under the values takes in a label set, or it stays as it was
+    pub listed_or_same : {A E : Type 0} (r : Result A E) (labels : LabelSet) → OnOk r (listed ≡ insert was labels tt) → OnErr r (listed ≡ was) → OnOk r (IsListedToo values labels old changed) × OnErr r (ListsSame old changed)
+    listed_or_same (Ok _) labels grown kept = (λ under other. ap (λ found. is_in found other) (replaced under) ∙ one_more labels grown under other (eq_by_cmp values_cmp under values) refl, tt)
+    listed_or_same (Err _) labels grown kept = (tt, λ under other. ap (λ found. is_in found other) (replaced under) ∙ no_more kept under other (eq_by_cmp values_cmp under values) refl)
 
 -- ---- a label set is taken in
 
-same_put : (m e h : Bool) → ((m && (e && true)) || (h && (m && e))) ≡ ((h || true) && (m && e))
-same_put true true true = refl
-same_put true true false = refl
-same_put true false true = refl
-same_put true false false = refl
-same_put false e true = refl
-same_put false e false = refl
-
-other_put : (m e h x : Bool) → ((m && (e && false)) || (h && x)) ≡ ((h || false) && x)
-other_put true true true x = refl
-other_put true true false x = refl
-other_put true false true x = refl
-other_put true false false x = refl
-other_put false e true x = refl
-other_put false e false x = refl
-
-put_is : (side : SourceSide) (labels q : LabelSet) (values : List Text) (h same : Bool) → eq_by_cmp label_set_cmp q labels ≡ same
-    → ((all_hold side.source labels && (eq_by_cmp values_cmp values (label_values side.equal.items labels) && same)) || (h && is_source side q values)) ≡ ((h || same) && is_source side q values)
-put_is side labels q values h true e =
-    let own : q ≡ labels = tells_apart label_set_cmp-IsAntisymmetric q labels e in
-    ap (λ x. (all_hold side.source labels && (eq_by_cmp values_cmp values (label_values side.equal.items labels) && true)) || (h && is_source side x values)) own
-    ∙ same_put (all_hold side.source labels) (eq_by_cmp values_cmp values (label_values side.equal.items labels)) h
-    ∙ ap (λ x. (h || true) && is_source side x values) (sym own)
-put_is side labels q values h false e =
-    other_put (all_hold side.source labels) (eq_by_cmp values_cmp values (label_values side.equal.items labels)) h (is_source side q values)
+put_is : (m v h same s : Bool) → (same ≡ true → s ≡ (m && v)) → ((m && (v && same)) || (h && s)) ≡ ((h || same) && s)
+put_is m v h false s is = ap (λ b. (m && b) || (h && s)) (and-false v) ∙ ap (λ b. b || (h && s)) (and-false m) ∙ ap (λ b. b && s) (sym (or-false h))
+put_is m v true true s is = ap (λ b. (m && b) || s) (and-true v) ∙ ap (λ b. b || s) (sym (is refl)) ∙ or_self s
+put_is m v false true s is = or-false _ ∙ ap (λ b. m && b) (and-true v) ∙ sym (is refl)
 
 -- a side that takes in the next label set lists those of one label set more
 pub side_seen : (arrived : List LabelSet) (old put new : CachedSide) (labels : LabelSet) → ListsSide arrived old → old.covered < length arrived → labels ≡ get_or arrived old.covered labels
@@ -126,7 +100,8 @@ side_seen arrived old put new labels is lt at puts side side_too covered sources
   exact = λ values q.
       ap (λ (l : ByValues). is_under l values q) sources ∙ puts values q
       ∙ ap (λ b. (all_hold old.side.source labels && (eq_by_cmp values_cmp values (label_values old.side.equal.items labels) && eq_by_cmp label_set_cmp q labels)) || b) (is.exact values q)
-      ∙ put_is old.side labels q values (has label_set_cmp (take old.covered arrived) q) (eq_by_cmp label_set_cmp q labels) refl
+      ∙ put_is (all_hold old.side.source labels) (eq_by_cmp values_cmp values (label_values old.side.equal.items labels)) (has label_set_cmp (take old.covered arrived) q) (eq_by_cmp label_set_cmp q labels) (is_source old.side q values)
+      (λ e. ap (λ x. is_source old.side x values) (tells_apart label_set_cmp-IsAntisymmetric q labels e))
       ∙ ap (λ x. (has label_set_cmp (take old.covered arrived) q || eq_by_cmp label_set_cmp q x) && is_source old.side q values) at
       ∙ ap (λ b. b && is_source old.side q values) (sym (list_any_more (eq_by_cmp label_set_cmp q) arrived old.covered labels lt))
       ∙ (λ i. has label_set_cmp (take (sym covered i) arrived) q && is_source (sym (side_too ∙ side) i) q values);
@@ -217,15 +192,11 @@ module _ (m : Alerts) where
       ap (λ b. cond b (Some a) (find label_set_cmp q rest)) e ∙ sym at ∙ ap (get m) (sym (tells_apart label_set_cmp-IsAntisymmetric q x e))
   find_one q x (Some a) rest false listed at e h = ap (λ b. cond b (Some a) (find label_set_cmp q rest)) e ∙ h
 
-  some_found : (same : Bool) (x : Unit {0}) (rest : Option (Unit {0})) → is_some (cond same (Some x) rest) ≡ (same || is_some rest)
-  some_found true x rest = refl
-  some_found false x rest = refl
-
   find_got : (q : LabelSet) (l : List (LabelSet × Unit {0})) → find label_set_cmp q (stored_of m (firsts l)) ≡ cond (is_some (find label_set_cmp q l)) (get m q) None
   find_got q [] = refl
   find_got q (x ∷ l) =
       find_one q x.0 (get m x.0) (stored_of m (firsts l)) (eq_by_cmp label_set_cmp q x.0) (is_some (find label_set_cmp q l)) refl refl (find_got q l)
-      ∙ ap (λ b. cond b (get m q) None) (sym (some_found (eq_by_cmp label_set_cmp q x.0) x.1 (find label_set_cmp q l)))
+      ∙ ap (λ b. cond b (get m q) None) (sym (some_or (eq_by_cmp label_set_cmp q x.0) x.1 (find label_set_cmp q l)))
 
   kept_alike : (arrived test : Bool) (found : Option Alert) → (is_some found ≡ true → arrived ≡ true) → cond (arrived && test) found None ≡ cond test found None
   kept_alike arrived test None h = none_either (arrived && test) None refl ∙ sym (none_either test None refl)
