@@ -1,12 +1,13 @@
 -- An alert that is placed on a route: first its copy, then the clock of its group.
-use Rattle.std.specs.Prelude.{◌≡◌, ℕ, zero, suc, List, [], ◌∷◌}
-use Rattle.std.specs.Prelude.{Some, cond, map, length, slice_get}
+use Rattle.std.specs.Prelude.{◌≡◌, ℕ, List, [], ◌∷◌}
+use Rattle.std.specs.Prelude.{true, false, Option, None, Some, cond, map, option_map, length, slice_get}
 use Rattle.std.specs.declared.cmp.Ordering.{Ordering}
-use Rattle.std.specs.declared.cmp.Ordering.TheVariants.{Less, Equal, Greater}
-use Rattle.std.specs.Cmp.{IsTotalOrder}
+use Rattle.std.specs.Cmp.{IsTotalOrder, Equal-is}
 use Rattle.std.specs.FinMap.{IsAntisymmetric}
-use Rattle.std.specs.Ordering.{is_eq}
+use Rattle.std.specs.Ordering.{eq_by_cmp}
 use Rattle.std.proofs.Common.{ap, sym, refl, ◌∙◌}
+use Rattle.std.proofs.lemmas.List.{length-map}
+use Rattle.std.proofs.lemmas.Option.{slice_get-map}
 use Rattle.amr_labels.specs.Map.{Map, get, insert, get-insert, get_tied, same_map}
 use Rattle.amr_labels.specs.Labels.{LabelSet}
 use Rattle.amr_config.specs.Stated.Config.{Config}
@@ -32,10 +33,9 @@ placed s copied labels alert copy route group route_labels timer grouped at same
 -- putting the value of a key under that key changes nothing
 pub put_as_it_is : {K X : Type 0} {R : K → K → Ordering} (o : IsTotalOrder R) → IsAntisymmetric R → (m : Map R X) (k : K) (v : X) → get m k ≡ Some v → insert m k v ≡ m
 put_as_it_is {R = R} o same m k v e =
-    same_map o same _ _ (λ q. get-insert o m k v q ∙ elim (R q k) as (λ r. R q k ≡ r → cond (is_eq r) (Some v) (get m q) ≡ get m q) [
-      | Less ↦ λ h. refl
-      | Equal ↦ λ h. sym e ∙ get_tied o m q k h
-      | Greater ↦ λ h. refl
+    same_map o same _ _ (λ q. get-insert o m k v q ∙ elim (eq_by_cmp R q k) as (λ b. eq_by_cmp R q k ≡ b → cond b (Some v) (get m q) ≡ get m q) [
+      | true ↦ λ t. sym e ∙ get_tied o m q k ((Equal-is _).0 t)
+      | false ↦ λ _. refl
     ] refl)
 
 -- ---- the groups that take an alert
@@ -48,19 +48,14 @@ pub routes_of_groups : (config : Config) (labels : LabelSet) → map (λ (group 
 unfolding groups_of
 routes_of_groups config labels = routes_of_made config labels (chosen_routes config labels)
 
-made_count : (config : Config) (labels : LabelSet) (routes : List ℕ) → length (map (group_at config labels) routes) ≡ length routes
-made_count config labels [] = refl
-made_count config labels (n ∷ ns) = ap suc (made_count config labels ns)
-
 pub count_of_groups : (config : Config) (labels : LabelSet) → length (groups_of config labels) ≡ length (chosen_routes config labels)
 unfolding groups_of
-count_of_groups config labels = made_count config labels (chosen_routes config labels)
+count_of_groups config labels = length-map (chosen_routes config labels) (group_at config labels)
 
-made_among : (config : Config) (labels : LabelSet) (routes : List ℕ) (n : ℕ) (group : RouteLabels) → slice_get (map (group_at config labels) routes) n ≡ Some group → group ≡ group_at config labels group.route
-made_among config labels [] n group e = cc
-made_among config labels (r ∷ rs) zero group e = let same : group_at config labels r ≡ group = cc in sym same ∙ ap (λ (g : RouteLabels). group_at config labels g.route) same
-made_among config labels (r ∷ rs) (suc n) group e = made_among config labels rs n group e
+made_among : (config : Config) (labels : LabelSet) (route : Option ℕ) (group : RouteLabels) → option_map (group_at config labels) route ≡ Some group → group ≡ group_at config labels group.route
+made_among config labels None group e = cc
+made_among config labels (Some r) group e = let same : group_at config labels r ≡ group = cc in sym same ∙ ap (λ (g : RouteLabels). group_at config labels g.route) same
 
 pub group_among : (config : Config) (labels : LabelSet) (n : ℕ) (group : RouteLabels) → slice_get (groups_of config labels) n ≡ Some group → group ≡ group_at config labels group.route
 unfolding groups_of
-group_among config labels n group = made_among config labels (chosen_routes config labels) n group
+group_among config labels n group e = made_among config labels (slice_get (chosen_routes config labels) n) group (sym (slice_get-map (group_at config labels) (chosen_routes config labels) n) ∙ e)
