@@ -18,16 +18,13 @@ nothing_arrived t arrived none labels h = absurd (true≢false (sym h ∙ ap (λ
 pub arrived_same : (t u : Numbered LabelSet Alert) (arrived : List LabelSet) → AllArrived t arrived → SamePlaces label_set_cmp t u → AllArrived u arrived
 arrived_same t u arrived is same labels h = is labels (subst IsTrue (same labels) h)
 
-has_joined : (arrived : List LabelSet) (key labels : LabelSet) → has label_set_cmp (arrived ++ key ∷ []) labels ≡ (has label_set_cmp arrived labels || has label_set_cmp (key ∷ []) labels)
-has_joined arrived key labels = list_any-append (eq_by_cmp label_set_cmp labels) arrived (key ∷ [])
-
 -- a label set that gets a place has arrived
 pub arrived_more : {T E : Type 0} (r : Result T E) (t u : Numbered LabelSet Alert) (arrived : List LabelSet) (key : LabelSet) (n : ℕ)
     → OnOk r (GetsNumber label_set_cmp t u key n) → OnErr r (SamePlaces label_set_cmp t u) → AllArrived t arrived → AllArrived u (arrived ++ key ∷ [])
 unfolding has_place
-arrived_more (Err e) t u arrived key n gets same is labels h = has_joined arrived key labels ∙ or_left _ _ (is labels (subst IsTrue (same labels) h))
+arrived_more (Err e) t u arrived key n gets same is labels h = list_any-append (eq_by_cmp label_set_cmp labels) arrived (key ∷ []) ∙ or_left _ _ (is labels (subst IsTrue (same labels) h))
 arrived_more (Ok x) t u arrived key n gets same is labels h =
-    has_joined arrived key labels ∙ elim (eq_by_cmp label_set_cmp labels key) as (λ b. eq_by_cmp label_set_cmp labels key ≡ b → IsTrue (is_some (if b then Some n else number_of label_set_cmp t labels)) → (has label_set_cmp arrived labels || has label_set_cmp (key ∷ []) labels) ≡ true) [
+    list_any-append (eq_by_cmp label_set_cmp labels) arrived (key ∷ []) ∙ elim (eq_by_cmp label_set_cmp labels key) as (λ b. eq_by_cmp label_set_cmp labels key ≡ b → IsTrue (is_some (if b then Some n else number_of label_set_cmp t labels)) → (has label_set_cmp arrived labels || has label_set_cmp (key ∷ []) labels) ≡ true) [
       | true ↦ λ e _. or_right (has label_set_cmp arrived labels) _ (or_left _ false e)
       | false ↦ λ _ h. or_left _ _ (is labels h)
     ] refl (subst (λ x. IsTrue (is_some x)) (gets labels) h)

@@ -155,9 +155,6 @@ noted_alike test id (Some p) a b same e =
     let there : periods_picked (but_one test p.id) a ≡ periods_picked (but_one test p.id) b = subst (λ (n : ℕ). periods_picked (but_one test n) a ≡ periods_picked (but_one test n) b) (sym same) e in
     picked_with test p a ∙ ap (among test p) there ∙ sym (picked_with test p b)
 
-seen_or_later : (version i : ℕ) → version ≤ i → (version == i) ≡ false → version + 1 ≤ i
-seen_or_later version i le apart = grind (arith, nat_tests)
-
 -- a test that picks no silence that changed later picks but for this one none that changed
 later_picks : (changes : List ℕ) (version id : ℕ) (test : ℕ → Bool) → id ≡ get_or changes version 0 → PicksNone test changes (version + 1) → PicksNone (but_one test id) changes version
 later_picks changes version id test is_id none = λ i le lt.
@@ -165,7 +162,7 @@ later_picks changes version id test is_id none = λ i le lt.
       | true ↦ λ same.
           let own : id ≡ get_or changes i 0 = is_id ∙ ap (λ (n : ℕ). get_or changes n 0) (eqb-true version i same) in
           ap (λ (n : ℕ). but_one test id n) (sym own) ∙ ap (λ (o : Ordering). test id && not (is_eq o)) (tied_itself nat_cmp_total id) ∙ and-false (test id)
-      | false ↦ λ apart. ap (λ (b : Bool). b && not (eq_by_cmp nat_cmp id (get_or changes i 0))) (none i (seen_or_later version i le apart) lt)
+      | false ↦ λ apart. ap (λ (b : Bool). b && not (eq_by_cmp nat_cmp id (get_or changes i 0))) (none i (let later : version + 1 ≤ i = grind (arith, nat_tests, le, apart) in later) lt)
     ] refl
 
 -- the next change of a silence is taken in
