@@ -364,8 +364,7 @@ module _ (config : Config) (a : Numbered RouteLabels Alert) (gs : Numbered Route
         elim (n == x) as (λ b. (n == x) ≡ b → IsTrue (b || list_any (λ x. n == x) ns) → IsTrue (has label_set_cmp (labels_of_members (members_at (x ∷ ns) all)) l)) [
           | true ↦ λ e _.
               let it = the_member x all.0 in
-              let same : n ≡ x = grind (arith, nat_tests) in
-              let keys : on_route group.route l ≡ on_route group.route it.labels = one_key route_labels_cmp_total route_labels_cmp-IsAntisymmetric a is.numbering (on_route group.route l) (on_route group.route it.labels) n there (it.number ∙ ap (λ n. Some n) (sym same)) in
+              let keys : on_route group.route l ≡ on_route group.route it.labels = one_key route_labels_cmp_total route_labels_cmp-IsAntisymmetric a is.numbering (on_route group.route l) (on_route group.route it.labels) n there (it.number ∙ ap (λ n. Some n) (sym (eqb-true n x e))) in
               ap (λ (r : RouteLabels). eq_by_cmp label_set_cmp r.labels it.labels || has label_set_cmp (labels_of_members (members_at ns all.1)) l) keys ∙ ap (λ o. is_eq o || has label_set_cmp (labels_of_members (members_at ns all.1)) l) (tied_itself label_set_cmp_total it.labels)
           | false ↦ λ _ rest. or_right (eq_by_cmp label_set_cmp l (the_member x all.0).labels) _ (has_labels ns all.1 l n there rest)
         ] refl h
@@ -388,14 +387,10 @@ module _ (config : Config) (a : Numbered RouteLabels Alert) (gs : Numbered Route
     apart_from x there (y ∷ ns) all differ =
         let own = the_member x there in
         let it = the_member y all.0 in (
-          elim (eq_by_cmp label_set_cmp own.labels it.labels) as (λ b. eq_by_cmp label_set_cmp own.labels it.labels ≡ b → b ≡ false) [
-            | true ↦ λ e.
-                let same : own.labels ≡ it.labels = tells_apart label_set_cmp-IsAntisymmetric own.labels it.labels e in
-                let number : x ≡ y = same_Some x y (sym own.number ∙ ap (λ l. number_of route_labels_cmp a (on_route group.route l)) same ∙ it.number) in
-                let other = differ.0 in
-                absurd (grind (arith, nat_tests))
-            | false ↦ λ _. refl
-          ] refl,
+          false_from_ne_true _ (λ e.
+              let same : own.labels ≡ it.labels = tells_apart label_set_cmp-IsAntisymmetric own.labels it.labels e in
+              let number : x ≡ y = same_Some x y (sym own.number ∙ ap (λ l. number_of route_labels_cmp a (on_route group.route l)) same ∙ it.number) in
+              true≢false (sym (eq-eqb x y number) ∙ differ.0)),
           apart_from x there ns all.1 differ.1,
         )
 
