@@ -1,5 +1,5 @@
 -- The moves of an event, counted one after another.
-use Rattle.std.proofs.Common.{◌≡◌, false, ℕ, suc, zero, ◌+◌, ◌-◌, ◌<◌, ◌≤◌, List, [], Option, None, Some, refl, sym, ap, ◌∙◌, arith}
+use Rattle.std.proofs.Common.{◌≡◌, false, ℕ, suc, zero, ◌+◌, ◌-◌, ◌<◌, ◌≤◌, List, [], Option, None, Some, refl, sym, ap, subst, ◌∙◌, arith}
 use Rattle.std.specs.Option.{option_map, option_map_or, is_some}
 use Rattle.std.proofs.lemmas.Bool.{true≢false}
 use Rattle.amr_time.specs.Time.{Moment}
@@ -8,6 +8,7 @@ use Rattle.amr_engine.specs.Runs.{after_step}
 use Rattle.amr_engine.specs.Events.{move_limit}
 use Rattle.amr_engine.specs.State.Dues.{Due, next_due}
 use Rattle.amr_engine.specs.Moves.{move, advance, counted_run, plus_moves}
+use Rattle.amr_engine.proofs.RunsLaws.{run_holds}
 
 pub advance_none : (n : ℕ) (at : Moment) (s : State) → next_due at s ≡ None → counted_run (advance n at s) ≡ Some (0, s)
 advance_none zero at s e = ap (λ (o : Option Due). counted_run (option_map_or (λ d. None) o (Some ([], s)))) e
@@ -24,6 +25,14 @@ pub advance_some : (n : ℕ) (at : Moment) (s : State) (d : Due) → next_due at
 advance_some n at s d e =
     ap (λ (o : Option Due). counted_run (option_map_or (λ d. option_map (after_step (next_due at) move d) (advance n at (move d s))) o (Some ([], s)))) e
     ∙ one_longer d (advance n at (move d s)) at
+
+-- what holds where nothing more is due, where the limit is reached and after one more move holds of
+-- the moves up to the moment
+pub counted_holds : (at : Moment) (P : ℕ → State → Option (ℕ × State) → Type 0) → ((l : ℕ) (s : State) → next_due at s ≡ None → P l s (Some (0, s)))
+    → ((s : State) (d : Due) → next_due at s ≡ Some d → P 0 s None) → ((l : ℕ) (s : State) (d : Due) (r : Option (ℕ × State)) → next_due at s ≡ Some d → P l (move d s) r → P (suc l) s (plus_moves r 1))
+    → (l : ℕ) (s : State) → P l s (counted_run (advance l at s))
+counted_holds at P none over more =
+    run_holds (next_due at) move (λ l s o. P l s (counted_run o)) none over (λ l s d o e rest. subst (P (suc l) s) (sym (one_longer d o at)) (more l s d (counted_run o) e rest))
 
 pub plus_twice : (r : Option (ℕ × State)) (m n : ℕ) → plus_moves (plus_moves r m) n ≡ plus_moves r (n + m)
 plus_twice None m n = refl

@@ -1,5 +1,5 @@
 -- How many entries an event adds to the open record.
-use Rattle.std.specs.Prelude.{◌≡◌, ℕ, zero, suc, false, if◌then◌else◌, List, [], ◌∷◌, Option, None, Some, length, drop, ◌+◌, ◌-◌, ◌*◌, ◌≤◌, ◌<◌}
+use Rattle.std.specs.Prelude.{◌≡◌, ℕ, zero, suc, false, if◌then◌else◌, List, ◌∷◌, Option, None, Some, length, drop, ◌+◌, ◌-◌, ◌*◌, ◌≤◌, ◌<◌}
 use Rattle.std.specs.Option.{option_map, option_map_or}
 use Rattle.std.specs.List.{fold, sum_by}
 use Rattle.std.proofs.Common.{get_or, refl, sym, ap, subst, ◌∙◌, arith}
@@ -22,35 +22,12 @@ use Rattle.amr_engine.specs.Events.{at_moment, move_limit, with_config}
 use Rattle.amr_engine.specs.Applied.{run_moved}
 use Rattle.amr_engine.specs.Prepared.{DoesAsPrepared, entries_of}
 use Rattle.amr_engine.specs.Weight.{move_weight, moves_weight, first_weight, reload_entries, alert_weight, alerts_weight, copies, act_weight, weight, run_weight, event_weight}
+use Rattle.amr_engine.proofs.RunsLaws.{run_holds}
 use Rattle.amr_engine.proofs.Endings.{Ran, some_run, stays}
 use Rattle.amr_engine.proofs.Copied.{copies_are_members}
 
 abbrev spent_by : State → Option (List Due × State) → ℕ
 spent_by s run = option_map_or (λ q. moves_weight s q.0) run 0
-
--- what has to be shown of the moves after a first one
-abbrev Follows : ℕ → Moment → State → Type 0
-Follows n at s = (r : List Due × State) → advance n at s ≡ Some r → first_weight n at s ≡ moves_weight s r.0
-
-stepped : (n : ℕ) (at : Moment) (s : State) (d : Due) (r : List Due × State) → Follows n at (move d s) → (x : Option (List Due × State)) → advance n at (move d s) ≡ x
-    → option_map (after_step (next_due at) move d) x ≡ Some r → move_weight s d d.kind + first_weight n at (move d s) ≡ moves_weight s r.0
-stepped n at s d r rest None is e = absurd (cc)
-stepped n at s d r rest (Some q) is e = ap (λ k. move_weight s d d.kind + k) (rest q is) ∙ ap (spent_by s) e
-
-from_next : (n : ℕ) (at : Moment) (s : State) (r : List Due × State) → ((d : Due) → Follows n at (move d s)) → (o : Option Due)
-    → option_map_or (λ d. option_map (after_step (next_due at) move d) (advance n at (move d s))) o (Some ([], s)) ≡ Some r
-    → option_map_or (λ d. move_weight s d d.kind + first_weight n at (move d s)) o 0 ≡ moves_weight s r.0
-from_next n at s r rest None e = ap (spent_by s) e
-from_next n at s r rest (Some d) e = stepped n at s d r (rest d) (advance n at (move d s)) refl e
-
-at_limit : (s : State) (r : List Due × State) (o : Option Due) → option_map_or (λ d. None) o (Some ([], s)) ≡ Some r → 0 ≡ moves_weight s r.0
-at_limit s r None e = ap (spent_by s) e
-at_limit s r (Some d) e = absurd (cc)
-
--- the weight of a run's moves
-pub first_weight-run : (limit : ℕ) (at : Moment) (s : State) → Follows limit at s
-first_weight-run zero at s r e = at_limit s r (next_due at s) e
-first_weight-run (suc n) at s r e = from_next n at s r (λ d. first_weight-run n at (move d s)) (next_due at s) e
 
 pub first_weight-some : (n : ℕ) (at : Moment) (s : State) (d : Due) → next_due at s ≡ Some d → first_weight (suc n) at s ≡ move_weight s d d.kind + first_weight n at (move d s)
 first_weight-some n at s d e = ap (λ (o : Option Due). option_map_or (λ d. move_weight s d d.kind + first_weight n at (move d s)) o 0) e
@@ -58,6 +35,19 @@ first_weight-some n at s d e = ap (λ (o : Option Due). option_map_or (λ d. mov
 pub first_weight-none : (n : ℕ) (at : Moment) (s : State) → next_due at s ≡ None → first_weight n at s ≡ 0
 first_weight-none zero at s e = refl
 first_weight-none (suc n) at s e = ap (λ (o : Option Due). option_map_or (λ d. move_weight s d d.kind + first_weight n at (move d s)) o 0) e
+
+-- the weight of a run's moves
+abbrev IsWeighed : Moment → ℕ → State → Option (List Due × State) → Type 0
+IsWeighed at n s run = (r : List Due × State) → run ≡ Some r → first_weight n at s ≡ moves_weight s r.0
+
+stepped : (at : Moment) (n : ℕ) (s : State) (d : Due) (run : Option (List Due × State)) → next_due at s ≡ Some d → IsWeighed at n (move d s) run
+    → IsWeighed at (suc n) s (option_map (after_step (next_due at) move d) run)
+stepped at n s d None next rest r e = absurd (cc)
+stepped at n s d (Some q) next rest r e = first_weight-some n at s d next ∙ ap (λ k. move_weight s d d.kind + k) (rest q refl) ∙ ap (spent_by s) e
+
+first_weight-run : (limit : ℕ) (at : Moment) (s : State) → IsWeighed at limit s (advance limit at s)
+first_weight-run limit at s =
+    run_holds (next_due at) move (IsWeighed at) (λ n s none r e. first_weight-none n at s none ∙ ap (spent_by s) e) (λ s d next r e. absurd (cc)) (stepped at) limit s
 
 -- before the first move
 pub none_spent : (limit : ℕ) (at : Moment) (s : State) (k : ℕ) → k + 2 * first_weight (limit - 0) at s ≤ k + 2 * first_weight limit at s
@@ -108,10 +98,11 @@ reloaded s config replacing alerts after now replaced placed is same all first l
     omega (arith, members, first, later)
 
 -- an accepted event as a whole
-light_event : (s : State) (at : Moment) (act : Act) (prepared : prepare.Prepared) (count : ℕ) (next after : State) (now moved done : ℕ) → is_label act ≡ false → DoesAsPrepared s at act prepared
+pub light_done : (s : State) (event : Event) (at : Moment) (act : Act) (at_is : at ≡ event.at) (act_is : act ≡ event.act) (prepared : prepare.Prepared) (count : ℕ) (next after : State)
+    (now moved done : ℕ) → is_label act ≡ false → DoesAsPrepared s at act prepared
     → Some (count, next) ≡ run_moved at (advance move_limit at s) → moved ≤ now + (1 + 2 * first_weight move_limit at s) → done ≤ moved + entries_of prepared next after
-    → done ≤ now + 4 * event_weight s (event_at at act) after
-light_event s at act prepared count next after now moved done no_label does ran went acted =
+    → done ≤ now + 4 * event_weight s event after
+light_done s event at act at_is act_is prepared count next after now moved done no_label does ran went acted =
     let r : Ran at (advance move_limit at s) count next = some_run at (advance move_limit at s) count next ran in
     let light : entries_of prepared next after ≤ 1 + 2 * act_weight next after act = does.light next after (stays s at count next ran) in
     let ends : act_weight next after act ≡ act_weight (at_moment at r.moved) after act = ap (λ (x : State). act_weight x after act) r.ends in
@@ -119,11 +110,5 @@ light_event s at act prepared count next after now moved done no_label does ran 
     let whole : event_weight s (event_at at act) after ≡ weight s r.moves r.moved after (event_at at act) =
     ap (λ b. if b then 0 else run_weight s (event_at at act) after) no_label
     ∙ ap (λ (o : Option (List Due × State)). option_map_or (λ run. weight s run.0 run.1 after (event_at at act)) o 0) r.ran in
-    omega (arith, light, ends, moves, whole, went, acted)
-
-pub light_done : (s : State) (event : Event) (at : Moment) (act : Act) (at_is : at ≡ event.at) (act_is : act ≡ event.act) (prepared : prepare.Prepared) (count : ℕ) (next after : State)
-    (now moved done : ℕ) → is_label act ≡ false → DoesAsPrepared s at act prepared
-    → Some (count, next) ≡ run_moved at (advance move_limit at s) → moved ≤ now + (1 + 2 * first_weight move_limit at s) → done ≤ moved + entries_of prepared next after
-    → done ≤ now + 4 * event_weight s event after
-light_done s event at act at_is act_is prepared count next after now moved done no_label does ran went acted =
-    subst (λ (e : Event). done ≤ now + 4 * event_weight s e after) (λ i. event_at (at_is i) (act_is i)) (light_event s at act prepared count next after now moved done no_label does ran went acted)
+    let short : done ≤ now + 4 * event_weight s (event_at at act) after = omega (arith, light, ends, moves, whole, went, acted) in
+    subst (λ (e : Event). done ≤ now + 4 * event_weight s e after) (λ i. event_at (at_is i) (act_is i)) short

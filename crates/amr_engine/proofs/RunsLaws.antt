@@ -20,42 +20,39 @@ module _ {S D : Type 0} (next : S → Option D) (step : D → S → S) where
   abbrev run_within : ℕ → S → Option (List D × S)
   run_within = run.run_within next step
 
-  -- the run is unique
-  pub Runs-unique : (s : S) (ds es : List D) (a b : S) → Runs s ds a → Runs s es b → (ds ≡ es) × (a ≡ b)
-  Runs-unique s [] [] a b r q = (refl, sym r.1 ∙ q.1)
-  Runs-unique s [] (e ∷ es) a b r q = absurd (cc (r.0, q.0))
-  Runs-unique s (d ∷ ds) [] a b r q = absurd (cc (r.0, q.0))
-  Runs-unique s (d ∷ ds) (e ∷ es) a b r q =
-      let same : d ≡ e = cc (r.0, q.0) in
-      let rest = Runs-unique (step d s) ds es a b r.1 (subst (λ (x : D). Runs (step x s) es b) (sym same) q.1) in
-      ((λ i. same i ∷ rest.0 i), rest.1)
+  -- what holds where nothing is next, where the limit is reached and after one more step holds of what
+  -- is run within a limit
+  pub run_holds : (P : ℕ → S → Option (List D × S) → Type 0) → ((limit : ℕ) (s : S) → next s ≡ None → P limit s (ran [] s)) → ((s : S) (d : D) → next s ≡ Some d → P 0 s None)
+      → ((limit : ℕ) (s : S) (d : D) (o : Option (List D × S)) → next s ≡ Some d → P limit (step d s) o → P (suc limit) s (option_map (after_step d) o)) → (limit : ℕ) (s : S) → P limit s (run_within limit s)
+  run_holds P none over more zero s =
+      elim (next s) as (λ o. next s ≡ o → P 0 s (option_map_or (λ d. None) o (ran [] s))) [
+        | None ↦ λ is. none 0 s is
+        | Some d ↦ λ is. over s d is
+      ] refl
+  run_holds P none over more (suc limit) s =
+      elim (next s) as (λ o. next s ≡ o → P (suc limit) s (option_map_or (λ d. option_map (after_step d) (run_within limit (step d s))) o (ran [] s))) [
+        | None ↦ λ is. none (suc limit) s is
+        | Some d ↦ λ is. more limit s d (run_within limit (step d s)) is (run_holds P none over more limit (step d s))
+      ] refl
 
   -- what is run within a limit is a run, of no more steps
-  by_steps : (limit : ℕ) (s : S) (d : D) (o : Option (List D × S)) (ds : List D) (end : S) → next s ≡ Some d
-      → ((es : List D) (b : S) → o ≡ ran es b → Runs (step d s) es b × (length es ≤ limit))
-      → option_map (after_step d) o ≡ ran ds end → Runs s ds end × (length ds ≤ suc limit)
-  by_steps limit s d None ds end is rest e = absurd (cc)
-  by_steps limit s d (Some (es, b)) ds end is rest e =
+  abbrev IsSound : ℕ → S → Option (List D × S) → Type 0
+  IsSound limit s o = (ds : List D) (end : S) → o ≡ ran ds end → Runs s ds end × (length ds ≤ limit)
+
+  by_steps : (limit : ℕ) (s : S) (d : D) (o : Option (List D × S)) → next s ≡ Some d → IsSound limit (step d s) o → IsSound (suc limit) s (option_map (after_step d) o)
+  by_steps limit s d None is rest ds end e = absurd (cc)
+  by_steps limit s d (Some (es, b)) is rest ds end e =
       let r = rest es b refl in
       let parts : ◌≡◌ {A = List D × S} (d ∷ es, b) (ds, end) = cc in
       subst (λ (x : List D × S). Runs s x.0 x.1 × (length x.0 ≤ suc limit)) parts ((is, r.0), omega (arith, r.1))
 
-  at_end : (limit : ℕ) (s : S) (ds : List D) (end : S) → next s ≡ None → ran [] s ≡ ran ds end → Runs s ds end × (length ds ≤ limit)
-  at_end limit s ds end is e =
+  at_end : (limit : ℕ) (s : S) → next s ≡ None → IsSound limit s (ran [] s)
+  at_end limit s is ds end e =
       let parts : ◌≡◌ {A = List D × S} ([], s) (ds, end) = cc in
       subst (λ (x : List D × S). Runs s x.0 x.1 × (length x.0 ≤ limit)) parts ((is, refl), omega arith)
 
   pub run_within-sound : (limit : ℕ) (s : S) (ds : List D) (end : S) → run_within limit s ≡ ran ds end → Runs s ds end × (length ds ≤ limit)
-  run_within-sound zero s ds end e =
-      elim (next s) as (λ o. next s ≡ o → option_map_or (λ d. None) o (ran [] s) ≡ ran ds end → Runs s ds end × (length ds ≤ 0)) [
-        | None ↦ λ is e. at_end 0 s ds end is e
-        | Some d ↦ λ is e. absurd (cc)
-      ] refl e
-  run_within-sound (suc limit) s ds end e =
-      elim (next s) as (λ o. next s ≡ o → option_map_or (λ d. option_map (after_step d) (run_within limit (step d s))) o (ran [] s) ≡ ran ds end → Runs s ds end × (length ds ≤ suc limit)) [
-        | None ↦ λ is e. at_end (suc limit) s ds end is e
-        | Some d ↦ λ is e. by_steps limit s d (run_within limit (step d s)) ds end is (run_within-sound limit (step d s)) e
-      ] refl e
+  run_within-sound = run_holds IsSound at_end (λ s d is ds end e. absurd (cc)) by_steps
 
   -- a run of no more steps is what is run within the limit
   pub run_within-complete : (limit : ℕ) (s : S) (ds : List D) (end : S) → Runs s ds end → length ds ≤ limit → run_within limit s ≡ ran ds end
@@ -80,16 +77,9 @@ module _ {S D : Type 0} (next : S → Option D) (step : D → S → S) where
 
   -- nothing is run within a limit only if one more step is next
   pub none-run_within : (limit : ℕ) (s : S) → run_within limit s ≡ None → (ds : List D) × (length ds ≡ suc limit) × Begins s ds
-  none-run_within zero s e =
-      elim (next s) as (λ o. next s ≡ o → option_map_or (λ d. None) o (ran [] s) ≡ None → (ds : List D) × (length ds ≡ 1) × Begins s ds) [
-        | None ↦ λ is e. absurd (cc)
-        | Some d ↦ λ is e. (d ∷ [], refl, (is, tt))
-      ] refl e
-  none-run_within (suc limit) s e =
-      elim (next s) as (λ o. next s ≡ o → option_map_or (λ d. option_map (after_step d) (run_within limit (step d s))) o (ran [] s) ≡ None → (ds : List D) × (length ds ≡ suc (suc limit)) × Begins s ds) [
-        | None ↦ λ is e. absurd (cc)
-        | Some d ↦ λ is e. let rest = none-run_within limit (step d s) (no_rest d (run_within limit (step d s)) e) in (d ∷ rest.0, ap suc rest.1, (is, rest.2))
-      ] refl e
+  none-run_within =
+      run_holds (λ limit s o. o ≡ None → (ds : List D) × (length ds ≡ suc limit) × Begins s ds) (λ limit s is e. absurd (cc)) (λ s d is e. (d ∷ [], refl, (is, tt)))
+      (λ limit s d o is rest e. let r = rest (no_rest d o e) in (d ∷ r.0, ap suc r.1, (is, r.2)))
 
 -- Two ways to say what is next: what the first says is next, the second does too. The first is up
 -- to an earlier moment, the second up to a later one.

@@ -1,8 +1,9 @@
 -- What an event does doesn't depend on the notifications before it.
-use Rattle.std.specs.Prelude.{◌≡◌, ℕ, zero, suc, Bool, true, false, List, [], ◌∷◌, ◌++◌, Option, Some, None, Result, Ok, Err, length, drop, nat_lt, if◌then◌else◌}
+use Rattle.std.specs.Prelude.{◌≡◌, ℕ, Bool, true, false, List, [], ◌∷◌, ◌++◌, Option, Some, None, Result, Ok, Err, length, nat_lt, if◌then◌else◌}
 use Rattle.std.specs.Option.{option_map, option_map_or}
 use Rattle.std.specs.List.{fold}
-use Rattle.std.proofs.Common.{refl, sym, ap, ◌∙◌, append_assoc, append-nil}
+use Rattle.std.proofs.Common.{refl, sym, ap, ◌∙◌, append_assoc, append-nil, arith}
+use Rattle.std.proofs.lemmas.List.{drop_at}
 use Rattle.amr_config.specs.Routing.{integrations_of, chosen_routes}
 use Rattle.amr_labels.specs.Labels.{LabelSet}
 use Rattle.amr_labels.specs.Map.{entries, empty}
@@ -25,11 +26,8 @@ use Rattle.amr_engine.specs.Stages.{taken_away}
 use Rattle.amr_engine.specs.Flush.{Members, notify_if_due, notify_receiver, record_notification, notifications_of, drop_member, mark_if_empty, drop_resolved, run_pipeline, flush, firing_of, resolved_of, let_through, log_key_of}
 use Rattle.amr_engine.specs.Runs as run
 use Rattle.amr_engine.specs.Moves.{move, move_of_kind, advance}
+use Rattle.amr_engine.proofs.RunsLaws.{run_holds, run_within-complete}
 use Rattle.amr_engine.specs.Events.{put, put_all, valid_alerts, with_config, with_silences, on_ok, after_act, at_moment, finish, judge, act_within, do_within, do_event, after_event, Outcome, skipped_of, outcome_from, outcome_of, without_notifications, move_limit}
-
-drop_first : {A : Type 0} (xs ys : List A) → drop (length xs) (xs ++ ys) ≡ ys
-drop_first [] ys = refl
-drop_first (x ∷ xs) ys = drop_first xs ys
 
 on_ok-twice : {A B C : Type 0} (f : B → C) (g : A → B) (r : Result A Reason) → on_ok f (on_ok g r) ≡ on_ok (λ x. f (g x)) r
 on_ok-twice f g (Ok x) = refl
@@ -114,23 +112,17 @@ module _ (earlier : List Notification) where
   after_step_after d (Some r) = refl
 
   advance_after : (limit : ℕ) (at : Moment) (s : State) → advance limit at (after s) ≡ option_map after_moves (advance limit at s)
-  advance_after zero at s = ap (λ (o : Option Due). option_map_or (λ d. None) o (Some ([], after s))) (next_due_beside (λ m. m) earlier at s) ∙ last (next_due at s)
+  advance_after limit at s =
+      run_holds (next_due at) move (λ l s o. advance l at (after s) ≡ option_map after_moves o)
+      (λ l s none. run_within-complete (next_due at) move l (after s) [] (after s) (next s ∙ none, refl) (omega arith))
+      (λ s d some. ap (λ (o : Option Due). option_map_or (λ d. None) o (Some ([], after s))) (next s ∙ some))
+      (λ l s d o some rest.
+      ap (λ (o : Option Due). option_map_or (λ d. option_map (run.after_step (next_due at) move d) (advance l at (move d (after s)))) o (Some ([], after s))) (next s ∙ some)
+      ∙ ap (λ (x : State). option_map (run.after_step (next_due at) move d) (advance l at x)) (move_beside (λ m. m) earlier d s)
+      ∙ ap (option_map (run.after_step (next_due at) move d)) rest ∙ after_step_after d o) limit s
     where
-      last : (o : Option Due) → option_map_or (λ d. None) o (Some ([], after s)) ≡ option_map after_moves (option_map_or (λ d. None) o (Some ([], s)))
-      last None = refl
-      last (Some d) = refl
-  advance_after (suc limit) at s =
-      ap (λ (o : Option Due). option_map_or (λ d. option_map (run.after_step (next_due at) move d) (advance limit at (move d (after s)))) o (Some ([], after s))) (next_due_beside (λ m. m) earlier at s)
-      ∙ more (next_due at s) (λ d. advance_after limit at (move d s))
-    where
-      more : (o : Option Due) → ((d : Due) → advance limit at (after (move d s)) ≡ option_map after_moves (advance limit at (move d s)))
-          → option_map_or (λ d. option_map (run.after_step (next_due at) move d) (advance limit at (move d (after s)))) o (Some ([], after s))
-          ≡ option_map after_moves (option_map_or (λ d. option_map (run.after_step (next_due at) move d) (advance limit at (move d s))) o (Some ([], s)))
-      more None rest = refl
-      more (Some d) rest =
-          ap (λ (x : State). option_map (run.after_step (next_due at) move d) (advance limit at x)) (move_beside (λ m. m) earlier d s)
-          ∙ ap (option_map (run.after_step (next_due at) move d)) (rest d)
-          ∙ after_step_after d (advance limit at (move d s))
+      next : (s : State) → next_due at (after s) ≡ next_due at s
+      next = next_due_beside (λ m. m) earlier at
 
   -- ---- the action
 
@@ -211,7 +203,7 @@ skipped_same s act = refl
 outcome_same : (s : State) (event : Event) (r : Result (List Due × State) Reason) → outcome_from (without_notifications s) event r ≡ outcome_from s event (on_ok (after_moves s.notes) r)
 outcome_same s event (Err e) = refl
 outcome_same s event (Ok done) =
-    λ i. Outcome.Accepted (length done.0) (sym (drop_first s.notes done.1.notes) i) (skipped_same (at_moment event.at s) event.act i)
+    λ i. Outcome.Accepted (length done.0) (sym (drop_at s.notes done.1.notes (length s.notes) refl) i) (skipped_same (at_moment event.at s) event.act i)
 
 -- what an event does can be seen without the notifications before it
 pub outcome_without : (s : State) (event : Event) → outcome_of (without_notifications s) event ≡ outcome_of s event
