@@ -7,6 +7,8 @@ use Rattle.std.proofs.Common.{refl, sym, ap, ◌∙◌, subst, arith, get_or, dr
 use Rattle.std.proofs.lemmas.List.{at_drop_more}
 use Rattle.std.proofs.lemmas.Bool.Decides.{nat_tests}
 use Rattle.std.proofs.lemmas.Bool.{and_parts}
+use Rattle.std.proofs.lemmas.List.Sums.{list_all-from_AllPass}
+use Rattle.std.proofs.lemmas.Result.{on_ok_weaker}
 use Rattle.amr_labels.specs.Map.{Map, entries, get, insert, remove, empty, get-empty}
 use Rattle.amr_labels.specs.Labels.{LabelSet}
 use Rattle.amr_time.specs.Time.{Moment, Span}
@@ -37,9 +39,10 @@ use Rattle.amr_engine.specs.Events.{put}
 use Rattle.amr_engine.specs.Flush.{Members, let_through, labels_of, log_key_of, flush}
 use Rattle.amr_engine.specs.Quiet.{is_outside, no_alert_ends, no_source_ends, no_silence_turns, all_fire_until, is_untimed, no_repeat_before, is_notified, are_notified, with_timer_reset, IsStill, IsQuiet, IsQuietWith, IsAllNotified, LeavesOthers}
 use Rattle.amr_engine.specs.CachedQuiet.{Times, times_in, quiet_times, IsNotifiedIn, IsQuietSince, IsTrueTime, IsTrueOf, Outlasts, without_joined}
-use Rattle.amr_engine.proofs.QuietLaws.{quiet_flush, notified_quiet, stays_quiet}
+use Rattle.amr_engine.proofs.FewerNotified.{all_weaker}
+use Rattle.amr_engine.proofs.QuietLaws.{still_alike, quiet_alike, quiet_flush, notified_quiet, stays_quiet}
 use Rattle.amr_engine.proofs.NotifiedStays.{beside_notified, left_notified, other_key, still_cached, now_cached, left_by_post}
-use Rattle.amr_engine.proofs.QuietStays.{flush_leaves, quiet_left, still_left}
+use Rattle.amr_engine.proofs.QuietStays.{flush_leaves, quiet_left}
 use Rattle.amr_engine.proofs.Listed.{none_left}
 
 -- ---- what is cached
@@ -53,30 +56,21 @@ nothing_cached cache times still s = record {
   still = λ period cached. absurd (cc (cached, still));
 }
 
--- one more group that is quiet
-pub one_more : (cache : QuietGroups) (table : Numbered RouteLabels QuietTime) (group : RouteLabels) (time : QuietTime) (s : State) → times_in table ≡ insert (quiet_times cache) group time
-    → IsTrueTime cache.generation s group time.period time.generation → IsTrueOf cache s → IsTrueOf (record cache { times = table }) s
-one_more cache table group time s are is holds = record {
-  quiet = λ other its cached. by other its (now_cached (quiet_times cache) group time other its (ap (λ (m : Times). get m other) (sym are) ∙ cached));
-  still = holds.still;
-}
-  where
-    by : (other : RouteLabels) (its : QuietTime) → ((other ≡ group) × (time ≡ its)) ⊎ (get (quiet_times cache) other ≡ Some its) → IsTrueTime cache.generation s other its.period its.generation
-    by other its (inl same) = subst (λ (x : RouteLabels × QuietTime). IsTrueTime cache.generation s x.0 x.1.period x.1.generation) (λ i. (sym same.0 i, same.1 i)) is
-    by other its (inr cached) = holds.quiet other its cached
-
--- or of none, if there was no room
-pub same_times : (cache : QuietGroups) (table : Numbered RouteLabels QuietTime) (s : State) → times_in table ≡ quiet_times cache → IsTrueOf cache s → IsTrueOf (record cache { times = table }) s
-same_times cache table s are holds = record {
-  quiet = λ group time cached. holds.quiet group time (ap (λ (m : Times). get m group) (sym are) ∙ cached);
-  still = holds.still;
-}
-
+-- one more group that is quiet, or none if there was no room
 pub kept_if : {T E : Type 0} (r : Result T E) (cache : QuietGroups) (table : Numbered RouteLabels QuietTime) (group : RouteLabels) (time : QuietTime) (s : State)
     → OnOk r (times_in table ≡ insert (quiet_times cache) group time) → OnErr r (times_in table ≡ quiet_times cache)
     → IsTrueTime cache.generation s group time.period time.generation → IsTrueOf cache s → IsTrueOf (record cache { times = table }) s
-kept_if (Ok x) cache table group time s ok err is holds = one_more cache table group time s ok is holds
-kept_if (Err e) cache table group time s ok err is holds = same_times cache table s err holds
+kept_if (Ok x) cache table group time s ok err is holds = record {
+  quiet = λ other its cached. elim (now_cached (quiet_times cache) group time other its (ap (λ (m : Times). get m other) (sym ok) ∙ cached)) [
+    | inl same ↦ subst (λ (x : RouteLabels × QuietTime). IsTrueTime cache.generation s x.0 x.1.period x.1.generation) (λ i. (sym same.0 i, same.1 i)) is
+    | inr before ↦ holds.quiet other its before
+  ];
+  still = holds.still;
+}
+kept_if (Err e) cache table group time s ok err is holds = record {
+  quiet = λ other its cached. holds.quiet other its (ap (λ (m : Times). get m other) (sym err) ∙ cached);
+  still = holds.still;
+}
 
 -- what is cached of a group, in a later state and perhaps a later generation
 carried : (before now : ℕ) (s t : State) (group : RouteLabels) (period : Period) → t.config ≡ s.config → before ≤ now → (IsNotifiedIn s group period → IsNotifiedIn t group period)
@@ -137,7 +131,7 @@ flushed_alone cache table s flushed at own are holds =
           (λ notified. left_notified s t flushed left group still.0 (other_key s.config group flushed notified.own.is_there own still.0) time.period notified)
           (λ there _. quiet_left flushed s t left group still.0 (other_key s.config group flushed there own still.0) time.period.from time.period.until)
           time.generation (holds.quiet group time still.1);
-      still = λ period cached. still_left flushed s t left period.from period.until (holds.still period cached);
+      still = λ period cached. still_alike s t left.config left.alerts left.silences period.from period.until (holds.still period cached);
     }
 
 -- the flush of a group on another route that is there leaves the groups notified
@@ -181,16 +175,12 @@ joined_outlasts cache table s alert are = λ group time cached.
 
 -- ---- the clock, group timers, notifications, stored alerts and silences
 
-still_stays : (s : State) (moment : Moment) (timers : Map route_labels_cmp GroupTimer) (notes : List Notification) (from until : Moment) → IsStill s from until
-    → IsStill (record s { moment = moment; timers = timers; notes = notes }) from until
-still_stays s moment timers notes from until still = record { sources = still.sources; silences = still.silences }
-
 -- what is cached depends on neither the clock nor group timers nor notifications
 pub stays_true : (s : State) (moment : Moment) (timers : Map route_labels_cmp GroupTimer) (notes : List Notification) (cache : QuietGroups) → IsTrueOf cache s
     → IsTrueOf cache (record s { moment = moment; timers = timers; notes = notes })
 stays_true s moment timers notes cache holds =
-    held cache s (record s { moment = moment; timers = timers; notes = notes }) refl (beside_notified s moment s.alerts s.silences timers notes) (stays_quiet s moment timers notes)
-    (still_stays s moment timers notes) holds
+    let t : State = record s { moment = moment; timers = timers; notes = notes } in
+    held cache s t refl (beside_notified s moment s.alerts s.silences timers notes) (stays_quiet s moment timers notes) (still_alike s t refl refl refl) holds
 
 -- notified groups stay so, whatever may mute their members
 pub unmuted : (cache : QuietGroups) (s : State) (alerts : Alerts) (silences : Silences) → Outlasts cache s (record s { alerts = alerts; silences = silences })
@@ -214,40 +204,24 @@ module _ (s : State) (alerts : Alerts) (none : s.config.rules ≡ []) where
       ap (λ (o : Option (ℕ × LabelSet)). option_or (option_map (λ found. Inhibited found.0 found.1) o) (option_or (by_active_time s at route) (option_or (by_mute_time s at route) (by_silence s at labels))))
       (ruleless at labels alerts s.alerts s.config.rules none)
 
-  through_alike : (at : Moment) (route : ℕ) (ms : Members) → let_through (record s { alerts = alerts }) at route ms ≡ let_through s at route ms
-  through_alike at route ms = λ i. filter (λ member. is_none (taken_alike at route member.0 i)) ms
+  still_unruled : (from until : Moment) → IsStill s from until → IsStill (record s { alerts = alerts }) from until
+  still_unruled from until still = record { sources = no_sources from until alerts s.config.rules none; silences = still.silences }
 
-  notified_alike : (group : RouteLabels) (from until : Moment) (ms : Members) → are_notified (record s { alerts = alerts }) group from until ms ≡ are_notified s group from until ms
-  notified_alike group from until [] = refl
-  notified_alike group from until (m ∷ ms) = refl
-
-  still_alike : (from until : Moment) → IsStill s from until → IsStill (record s { alerts = alerts }) from until
-  still_alike from until still = record { sources = no_sources from until alerts s.config.rules none; silences = still.silences }
-
-  with_alike : (group : RouteLabels) (from until : Moment) (ms : Members) → IsQuietWith s group from until ms → IsQuietWith (record s { alerts = alerts }) group from until ms
-  with_alike group from until [] quiet = tt
-  with_alike group from until (m ∷ ms) (inl quiet) = inl (record {
-    fire = quiet.fire;
-    still = still_alike from until quiet.still;
-    untimed = quiet.untimed;
-    notified = notified_alike group from until (let_through (record s { alerts = alerts }) from group.route (m ∷ ms)) ∙ ap (are_notified s group from until) (through_alike from group.route (m ∷ ms)) ∙ quiet.notified;
-  })
-  with_alike group from until (m ∷ ms) (inr notified) = inr (record { fire = notified.fire; notified = notified.notified })
-
-  quiet_alike : (group : RouteLabels) (from until : Moment) → IsQuiet s group from until → IsQuiet (record s { alerts = alerts }) group from until
+  quiet_unruled : (group : RouteLabels) (from until : Moment) → IsQuiet s group from until → IsQuiet (record s { alerts = alerts }) group from until
   unfolding IsQuiet members
-  quiet_alike group from until quiet = with_alike group from until (members s group) quiet
+  quiet_unruled group from until quiet =
+      quiet_alike s (record s { alerts = alerts }) group refl (λ _. refl) from until (still_unruled from until)
+      (λ ms i. filter (λ member. is_none (taken_alike from group.route member.0 i)) ms) (members s group) quiet
 
   -- without inhibition rules, nothing that is cached depends on the stored alerts
   pub true_alike : (cache : QuietGroups) → IsTrueOf cache s → IsTrueOf cache (record s { alerts = alerts })
-  true_alike cache holds = held cache s (record s { alerts = alerts }) refl (beside_notified s s.moment alerts s.silences s.timers s.notes) quiet_alike still_alike holds
+  true_alike cache holds = held cache s (record s { alerts = alerts }) refl (beside_notified s s.moment alerts s.silences s.timers s.notes) quiet_unruled still_unruled holds
 
 -- ---- steps of the code
 
 -- a cache that is true of a state is so of what is done, if that is the state
 pub still_true : {T E : Type 0} (r : Result T E) (cache : QuietGroups) (s middle t : State) → IsTrueOf cache t → middle ≡ t → OnOk r (s ≡ middle) → OnOk r (IsTrueOf cache s)
-still_true (Ok x) cache s middle t holds is same = subst (IsTrueOf cache) (sym (same ∙ is)) holds
-still_true (Err e) cache s middle t holds is same = tt
+still_true r cache s middle t holds is same = on_ok_weaker r (λ e. subst (IsTrueOf cache) (sym (e ∙ is)) holds) same
 
 -- a group timer that is set leaves the cache true
 pub reset_true : (s : State) (at : Moment) (group : RouteLabels) (cache : QuietGroups) → IsTrueOf cache s → IsTrueOf cache (with_timer_reset at group s)
@@ -259,34 +233,25 @@ outside_later : (from at until end m : Moment) → from ≤ at → end ≤ until
 outside_later from at until end m later sooner out = grind (arith, nat_tests)
 
 module _ (from at until end : Moment) (later : from ≤ at) (sooner : end ≤ until) where
-  alerts_later : (stored : List (LabelSet × Alert)) → list_all (λ one. is_outside from until one.1.ends_at) stored ≡ true → list_all (λ one. is_outside at end one.1.ends_at) stored ≡ true
-  alerts_later [] still = refl
-  alerts_later (one ∷ stored) still =
-      let parts = and_parts (is_outside from until one.1.ends_at) (list_all (λ one. is_outside from until one.1.ends_at) stored) still in
-      (λ i. outside_later from at until end one.1.ends_at later sooner parts.0 i && alerts_later stored parts.1 i)
-
   silences_later : (stored : List (ℕ × Silence)) → list_all (λ one. is_outside from until one.1.starts_at && is_outside from until one.1.ends_at) stored ≡ true
       → list_all (λ one. is_outside at end one.1.starts_at && is_outside at end one.1.ends_at) stored ≡ true
-  silences_later [] still = refl
-  silences_later (one ∷ stored) still =
-      let parts = and_parts (is_outside from until one.1.starts_at && is_outside from until one.1.ends_at) (list_all (λ one. is_outside from until one.1.starts_at && is_outside from until one.1.ends_at) stored) still in
-      let ends = and_parts (is_outside from until one.1.starts_at) (is_outside from until one.1.ends_at) parts.0 in
-      (λ i. (outside_later from at until end one.1.starts_at later sooner ends.0 i && outside_later from at until end one.1.ends_at later sooner ends.1 i) && silences_later stored parts.1 i)
+  silences_later = all_weaker (λ (one : ℕ × Silence). is_outside from until one.1.starts_at && is_outside from until one.1.ends_at)
+      (λ (one : ℕ × Silence). is_outside at end one.1.starts_at && is_outside at end one.1.ends_at) (λ one out.
+      let parts = and_parts (is_outside from until one.1.starts_at) (is_outside from until one.1.ends_at) out in
+      (λ i. outside_later from at until end one.1.starts_at later sooner parts.0 i && outside_later from at until end one.1.ends_at later sooner parts.1 i))
 
   sources_later : (rules : List InhibitRule) (alerts : Alerts) → no_source_ends from until rules alerts ≡ true → no_source_ends at end rules alerts ≡ true
   sources_later [] alerts still = refl
-  sources_later (rule ∷ rules) alerts still = alerts_later (entries alerts) still
+  sources_later (rule ∷ rules) alerts still =
+      all_weaker (λ (one : LabelSet × Alert). is_outside from until one.1.ends_at) (λ one. is_outside at end one.1.ends_at) (λ one. outside_later from at until end one.1.ends_at later sooner) (entries alerts) still
 
   -- what is still in a stretch is still in a part of it
   pub still_later : (s : State) → IsStill s from until → IsStill s at end
   still_later s still = record { sources = sources_later s.config.rules s.alerts still.sources; silences = silences_later (entries s.silences) still.silences }
 
 pub fire_sooner : (until end : Moment) → end ≤ until → (ms : Members) → all_fire_until until ms ≡ true → all_fire_until end ms ≡ true
-fire_sooner until end sooner [] fire = refl
-fire_sooner until end sooner (m ∷ ms) fire =
-    let parts = and_parts (nat_le until m.1.ends_at) (all_fire_until until ms) fire in
-    let here : nat_le end m.1.ends_at ≡ true = grind (arith, nat_tests) in
-    (λ i. here i && fire_sooner until end sooner ms parts.1 i)
+fire_sooner until end sooner ms fire =
+    all_weaker (λ (m : LabelSet × Alert). nat_le until m.1.ends_at) (λ m. nat_le end m.1.ends_at) (λ m fires. grind (arith, nat_tests)) ms fire
 
 sooner_repeat : (until end : Moment) → end ≤ until → (interval : Span) (entry : Option LogEntry) → no_repeat_before until interval entry ≡ true → no_repeat_before end interval entry ≡ true
 sooner_repeat until end sooner interval None h = refl
@@ -361,14 +326,13 @@ outside_now : (from until m : Moment) → until ≡ from + 1 → is_outside from
 outside_now from until m next = grind (arith, nat_tests)
 
 module _ (from until : Moment) (next : until ≡ from + 1) where
-  alerts_now : (stored : List (LabelSet × Alert)) → list_all (λ one. is_outside from until one.1.ends_at) stored ≡ true
-  alerts_now [] = refl
-  alerts_now (one ∷ stored) = λ i. outside_now from until one.1.ends_at next i && alerts_now stored i
-
-  silences_now : (stored : List (ℕ × Silence)) → list_all (λ one. is_outside from until one.1.starts_at && is_outside from until one.1.ends_at) stored ≡ true
-  silences_now [] = refl
-  silences_now (one ∷ stored) = λ i. (outside_now from until one.1.starts_at next i && outside_now from until one.1.ends_at next i) && silences_now stored i
-
   -- nothing changes within a nanosecond
   pub still_now : (s : State) → IsStill s from until
-  still_now s = record { sources = all_sources from until s.alerts s.config.rules (alerts_now (entries s.alerts)); silences = silences_now (entries s.silences) }
+  still_now s = record {
+    sources = all_sources from until s.alerts s.config.rules
+        (list_all-from_AllPass (λ (one : LabelSet × Alert). is_outside from until one.1.ends_at) (entries s.alerts) (λ k d less. outside_now from until _ next));
+    silences = list_all-from_AllPass (λ (one : ℕ × Silence). is_outside from until one.1.starts_at && is_outside from until one.1.ends_at) (entries s.silences)
+        (λ k d less.
+        let one : ℕ × Silence = get_or (entries s.silences) k d in
+        (λ i. outside_now from until one.1.starts_at next i && outside_now from until one.1.ends_at next i));
+  }

@@ -1,12 +1,12 @@
 -- Flushes of quiet groups can be made in any order, so those of one group can all be made first.
-use Rattle.std.specs.Prelude.{◌≡◌, ℕ, zero, suc, Bool, true, false, IsSomeAnd, List, [], ◌∷◌, ◌++◌, Option, Some, None, ◌≤◌, ◌<◌, ◌+◌, ◌-◌, ◌*◌, ◌/◌, map, option_map, cond, ◌⊎◌, ◌||◌, IsTrue, IfSome, nat_lt}
-use Rattle.std.specs.List.{filter_map, cons_option}
+use Rattle.std.specs.Prelude.{◌≡◌, ℕ, zero, suc, Bool, true, false, IsSomeAnd, List, [], ◌∷◌, ◌++◌, Option, Some, None, ◌≤◌, ◌<◌, ◌+◌, ◌-◌, ◌*◌, ◌/◌, map, option_map, ◌||◌, IsTrue, IfSome, nat_lt}
+use Rattle.std.specs.List.{Contains, filter_map, cons_option}
 use Rattle.std.specs.Option.{option_and_then, option_map_or}
 use Rattle.std.specs.Ordering.{eq_by_cmp, is_eq}
 use Rattle.std.proofs.Common.{refl, sym, ap, ◌∙◌, subst, inl, inr, arith}
 use Rattle.std.proofs.lemmas.Cmp.{tied_itself}
 use Rattle.std.proofs.lemmas.Option.{same_Some}
-use Rattle.amr_labels.specs.Map.{Map, get, insert, entries, get-insert}
+use Rattle.amr_labels.specs.Map.{Map, get, insert, entries}
 use Rattle.amr_labels.specs.Labels.{label_set_cmp_total, label_set_cmp-IsAntisymmetric}
 use Rattle.amr_time.specs.Time.{Moment, second, next_multiple_of}
 use Rattle.amr_config.specs.Routing.{group_interval_of}
@@ -27,15 +27,17 @@ use Rattle.amr_tables.specs.Places.{value_at}
 use Rattle.amr_tables.specs.Numbered.{Numbered, map_of, number_of, key_at, next_number, IsNumbering}
 use Rattle.amr_tables.proofs.Naming.{key_at_number}
 use Rattle.amr_tables.proofs.Numbering.{get-shown}
-use Rattle.amr_engine.specs.State.Dues.{Due, due_at, kind_of, due_cmp, due_cmp_total, due_cmp-IsAntisymmetric, dues_of, group_removal_at, alert_removal_of, group_removal_of, flush_of, next_due}
+use Rattle.amr_engine.specs.State.Dues.{Due, due_at, due_cmp, due_cmp_total, due_cmp-IsAntisymmetric, dues_of, dues, group_removal_at, alert_removal_of, group_removal_of, flush_of, next_due}
 use Rattle.amr_engine.specs.Quiet.{with_timer_reset}
 use Rattle.amr_engine.specs.Moves.{move, advance, counted_run, plus_moves}
 use Rattle.amr_engine.specs.Weight.{move_weight, first_weight}
 use Rattle.amr_engine.specs.Said.{IsIn}
 use Rattle.amr_engine.specs.Calm.{AreNoneRemoved, IsQuietBeyond, IsCalm}
-use Rattle.amr_engine.proofs.Cascade.{advance_none, advance_over, advance_some, plus_twice}
-use Rattle.amr_engine.proofs.PlacedLists.{IsAmong, among_entries, get-among, get-inserted, get-insert_cases}
-use Rattle.amr_engine.proofs.Lasting.{in_map, in_right, timer_among, from_map, from_filter_map, in_either, timer_got, alert_dues, empty_dues, flush_dues, dues_are, next_is_due, some_due}
+use Rattle.amr_engine.proofs.Cascade.{advance_over, advance_some, counted_holds, plus_twice}
+use Rattle.amr_engine.proofs.Growing.{first_weight-some}
+use Rattle.amr_engine.proofs.Listed.{none_listed, first_or_rest}
+use Rattle.amr_engine.proofs.PlacedLists.{among_entries, get-inserted, get-insert_apart, get-insert_cases, same_or_apart}
+use Rattle.amr_engine.proofs.Lasting.{in_map, in_right, timer_among, removal_at, removal_of, due_holds, next_is_due, some_due}
 use Rattle.std.proofs.Math.Nat.{mul-le-mul_right}
 use Rattle.std.proofs.lemmas.Nat.{div-add-mod'}
 use Rattle.amr_engine.proofs.CachedQuiet.{stays_true}
@@ -54,7 +56,7 @@ Timers = Map route_labels_cmp GroupTimer
 
 got_other : (timers : Timers) (group other : RouteLabels) (new : GroupTimer) → (other ≡ group → ⊥) → get (insert timers group new) other ≡ get timers other
 got_other timers group other new differ =
-    get-insert route_labels_cmp_total timers group new other ∙ ap (λ b. cond b (Some new) (get timers other)) (apart route_labels_cmp-IsAntisymmetric other group differ)
+    get-insert_apart route_labels_cmp_total route_labels_cmp-IsAntisymmetric timers group new other (apart route_labels_cmp-IsAntisymmetric other group differ)
 
 -- two timers can be set in either order
 set_both : (timers : Timers) (a b : RouteLabels) (x y : GroupTimer) → (a ≡ b → ⊥) → insert (insert timers a x) b y ≡ insert (insert timers b y) a x
@@ -79,27 +81,11 @@ reset_is m s group timer timed =
 
 -- if none is removed up to the moment, a removal that is pending is later
 module _ (at : Moment) (alerts : Alerts) (timers : Timers) (none : AreNoneRemoved at alerts timers) where
-  later_of_group : (entry : RouteLabels × GroupTimer) (d : Due) → get timers entry.0 ≡ Some entry.1 → group_removal_of entry ≡ Some d → at < d.moment
-  later_of_group entry d timed is = by entry.1.empty_since refl is
-    where
-      by : (o : Option Moment) → entry.1.empty_since ≡ o
-          → option_map (λ since. record { moment = next_multiple_of since (30 * second); kind = GroupRemoval; route = entry.0.route; labels = entry.0.labels }) o ≡ Some d → at < d.moment
-      by None e is = absurd (cc)
-      by (Some since) e is =
-          let later : at < next_multiple_of since (30 * second) =
-          none.of_groups entry.0 entry.1 (next_multiple_of since (30 * second)) timed (ap (option_map (λ m. next_multiple_of m (30 * second))) e) in
-          let here : next_multiple_of since (30 * second) ≡ d.moment = ap (λ (o : Option Due). option_map_or (λ x. x.moment) o 0) is in
-          omega (arith, later, here)
-
-  pub removed_later : (d : Due) → IsIn d (map alert_removal_of (entries alerts) ++ filter_map group_removal_of (entries timers)) → at < d.moment
-  removed_later d among = elim (in_either d (map alert_removal_of (entries alerts)) (filter_map group_removal_of (entries timers)) among) [
-    | inl alert ↦
-        let e = from_map alert_removal_of d (entries alerts) alert in
-        subst (λ (x : Due). at < x.moment) (sym e.2) (none.of_alerts e.0.0 e.0.1 (get-among label_set_cmp_total label_set_cmp-IsAntisymmetric alerts e.0.0 e.0.1 e.1))
-    | inr empty ↦
-        let e = from_filter_map group_removal_of d (entries timers) empty in
-        later_of_group e.0 d (timer_got timers e.0.0 e.0.1 e.1) e.2
-  ]
+  pub removed_later : (d : Due) → (d.kind ≡ GroupFlush → ⊥) → IsIn d (dues_of alerts timers) → at < d.moment
+  removed_later d removal among =
+      due_holds alerts timers (λ d. (d.kind ≡ GroupFlush → ⊥) → at < d.moment) (λ labels alert got _. none.of_alerts labels alert got)
+      (λ group timer since timed empty _. none.of_groups group timer (next_multiple_of since (30 * second)) timed (ap (option_map (λ m. next_multiple_of m (30 * second))) empty))
+      (λ _ _ _ removal. absurd (removal refl)) d among removal
 
 -- ---- the next move
 
@@ -127,18 +113,26 @@ module _ (at : Moment) where
         made = quiet_flush s entry.0 quiet.from quiet.until entry.1.next_flush quiet.begun before quiet.quiet ∙ reset_is entry.1.next_flush s entry.0 entry.1 timed;
       }
 
-  by_one : (s : State) (d : Due) → IsCalm at s → IsIn d (alert_dues s ++ empty_dues s) ⊎ IsIn d (flush_dues s) → d.moment ≤ at → Resets s d
-  by_one s d calm (inl removal) soon =
-      let later = removed_later at s.alerts s.timers calm.removed d removal in
-      absurd (omega (arith, later, soon))
-  by_one s d calm (inr flushed) soon =
-      let e = from_map flush_of d (entries s.timers) flushed in
-      subst (Resets s) (sym e.2) (resets_flush s e.0 calm (timer_got s.timers e.0.0 e.0.1 e.1) (subst (λ (x : Due). x.moment ≤ at) e.2 soon))
-
   pub next_resets : (s : State) (d : Due) → IsCalm at s → next_due at s ≡ Some d → Resets s d
+  unfolding dues
   next_resets s d calm next =
       let due = next_is_due at s d next in
-      by_one s d calm (in_either d (alert_dues s ++ empty_dues s) (flush_dues s) (subst (IsIn d) (dues_are s) due.0)) due.1
+      due_holds s.alerts s.timers (λ d. d.moment ≤ at → Resets s d) (λ labels alert got soon. absurd (omega (arith, calm.removed.of_alerts labels alert got, soon)))
+      (λ group timer since timed empty soon.
+      absurd (omega (arith, calm.removed.of_groups group timer (next_multiple_of since (30 * second)) timed (ap (option_map (λ m. next_multiple_of m (30 * second))) empty), soon)))
+      (λ group timer timed soon. resets_flush s (group, timer) calm timed soon) d due.0 due.1
+
+  -- a group stays quiet beyond the moment when timers are set, its own to a later flush
+  beyond_after : (s : State) (timers : Timers) (group : RouteLabels) (was timer : GroupTimer) → was.next_flush ≤ timer.next_flush → IsQuietBeyond at s group was
+      → IsQuietBeyond at (record s { timers = timers }) group timer
+  beyond_after s timers group was timer later quiet = record {
+    from = quiet.from;
+    until = quiet.until;
+    begun = omega (arith, quiet.begun, later);
+    beyond = quiet.beyond;
+    quiet = stays_quiet s s.moment timers s.notes group quiet.from quiet.until quiet.quiet;
+    apart = quiet.apart;
+  }
 
   -- it stays calm when a timer is set later
   pub calm_after : (s : State) (group : RouteLabels) (timer : GroupTimer) (next : Moment) → IsCalm at s → get s.timers group ≡ Some timer → timer.next_flush ≤ at → timer.next_flush ≤ next
@@ -155,26 +149,8 @@ module _ (at : Moment) where
           ];
         };
         flushed = λ other its got due. elim (get-insert_cases route_labels_cmp_total route_labels_cmp-IsAntisymmetric s.timers group new other its got) [
-          | inl same ↦
-              let quiet = calm.flushed group timer timed soon in
-              subst (λ (x : RouteLabels × GroupTimer). IsQuietBeyond at t x.0 x.1) (λ i. (sym same.0 i, same.1 i)) (record {
-                from = quiet.from;
-                until = quiet.until;
-                begun = omega (arith, quiet.begun, later);
-                beyond = quiet.beyond;
-                quiet = stays_quiet s s.moment t.timers s.notes group quiet.from quiet.until quiet.quiet;
-                apart = quiet.apart;
-              })
-          | inr before ↦
-              let quiet = calm.flushed other its before due in
-              record {
-                from = quiet.from;
-                until = quiet.until;
-                begun = quiet.begun;
-                beyond = quiet.beyond;
-                quiet = stays_quiet s s.moment t.timers s.notes other quiet.from quiet.until quiet.quiet;
-                apart = quiet.apart;
-              }
+          | inl same ↦ subst (λ (x : RouteLabels × GroupTimer). IsQuietBeyond at t x.0 x.1) (λ i. (sym same.0 i, same.1 i)) (beyond_after s t.timers group timer new later (calm.flushed group timer timed soon))
+          | inr before ↦ beyond_after s t.timers other its its (omega arith) (calm.flushed other its before due)
         ];
       }
 
@@ -202,15 +178,12 @@ module _ (at : Moment) where
       let first = next_resets s d.0 calm d.1 in
       advance_some l at s d.0 d.1
       ∙ ap (λ (t : State). plus_moves (counted_run (advance l at t)) 1) first.made
-      ∙ ap (λ r. plus_moves r 1) (elim (eq_by_cmp route_labels_cmp first.group group) as (λ b. eq_by_cmp route_labels_cmp first.group group ≡ b
-      → counted_run (advance l at (once s first.group first.timer)) ≡ counted_run (advance l at (once s group timer))) [
-        | true ↦ λ is.
-            let same : first.group ≡ group = tells_apart route_labels_cmp-IsAntisymmetric first.group group is in
-            let timers : first.timer ≡ timer =
-            ap (λ (o : Option GroupTimer). option_map_or (λ t. t) o timer) (sym first.timed ∙ ap (get s.timers) same ∙ timed) in
+      ∙ ap (λ r. plus_moves r 1) (elim (same_or_apart route_labels_cmp_total route_labels_cmp-IsAntisymmetric first.group group) [
+        | inl same ↦
+            let timers : first.timer ≡ timer = same_Some first.timer timer (sym first.timed ∙ ap (get s.timers) same ∙ timed) in
             λ i. counted_run (advance l at (once s (same i) (timers i)))
-        | false ↦ λ is. beside first.group first.timer first.timed first.soon (λ same. absurd (cc (is, ap is_eq (ap (λ (g : RouteLabels). route_labels_cmp first.group g) (sym same) ∙ tied_itself route_labels_cmp_total first.group))))
-      ] refl)
+        | inr apart ↦ beside first.group first.timer first.timed first.soon apart.0
+      ])
 
   -- any group that is due can be flushed first
   any_first : (l : ℕ) (s : State) (group : RouteLabels) (timer : GroupTimer) → IsCalm at s → get s.timers group ≡ Some timer → timer.next_flush ≤ at
@@ -270,12 +243,8 @@ module _ (at : Moment) where
 
 -- nothing but the flush of a group is due
 pub only_flushes : (at : Moment) (s : State) (moment : Moment) (timer : Timer) → IsCalm at s → next_due at s ≡ Some (due_at moment timer) → ((group : RouteLabels) → timer ≡ timers.GroupFlush group → ⊥) → ⊥
-only_flushes at s moment timer calm next none = by timer none (ap (λ (d : Due). d.kind) (next_resets at s (due_at moment timer) calm next).is)
-  where
-    by : (timer : Timer) → ((group : RouteLabels) → timer ≡ timers.GroupFlush group → ⊥) → kind_of timer ≡ GroupFlush → ⊥
-    by (timers.AlertRemoval labels) none e = cc e
-    by (timers.GroupRemoval group) none e = cc e
-    by (timers.GroupFlush group) none e = none group refl
+only_flushes at s moment (timers.GroupFlush group) calm next none = none group refl
+only_flushes at s moment timer calm next none = cc (ap (λ (d : Due). d.kind) (next_resets at s (due_at moment timer) calm next).is)
 
 record Flushed (at : Moment) (s : State) (moment : Moment) (group : RouteLabels) : Type 0 where
   timer : GroupTimer
@@ -401,27 +370,12 @@ module _ (at : Moment) where
   Weighs l s None = l ≤ first_weight l at s
   Weighs l s (Some run) = run.0 ≤ first_weight l at s
 
-  one_heavier : (l : ℕ) (s : State) (d : Due) (r : Option (ℕ × State)) → next_due at s ≡ Some d → Weighs l (move d s) r → Weighs (suc l) s (plus_moves r 1)
-  one_heavier l s d r next = by r
-    where
-      weight : first_weight (suc l) at s ≡ move_weight s d d.kind + first_weight l at (move d s)
-      weight = ap (λ (o : Option Due). option_map_or (λ x. move_weight s x x.kind + first_weight l at (move x s)) o 0) next
-
-      by : (r : Option (ℕ × State)) → Weighs l (move d s) r → Weighs (suc l) s (plus_moves r 1)
-      by None w = omega (arith, w, weight, weighs s d d.kind)
-      by (Some run) w = omega (arith, w, weight, weighs s d d.kind)
-
   pub moves_weigh : (l : ℕ) (s : State) → Weighs l s (counted_run (advance l at s))
-  moves_weigh zero s = by (next_due at s) refl
+  moves_weigh = counted_holds at Weighs (λ l s e. omega arith) (λ s d e. omega arith) more
     where
-      by : (o : Option Due) → next_due at s ≡ o → Weighs zero s (counted_run (advance zero at s))
-      by None e = subst (Weighs zero s) (sym (advance_none zero at s e)) (omega arith)
-      by (Some d) e = subst (Weighs zero s) (sym (advance_over at s d e)) (omega arith)
-  moves_weigh (suc l) s = by (next_due at s) refl (λ d. moves_weigh l (move d s))
-    where
-      by : (o : Option Due) → next_due at s ≡ o → ((d : Due) → Weighs l (move d s) (counted_run (advance l at (move d s)))) → Weighs (suc l) s (counted_run (advance (suc l) at s))
-      by None e rest = subst (Weighs (suc l) s) (sym (advance_none (suc l) at s e)) (omega arith)
-      by (Some d) e rest = subst (Weighs (suc l) s) (sym (advance_some l at s d e)) (one_heavier l s d (counted_run (advance l at (move d s))) e (rest d))
+      more : (l : ℕ) (s : State) (d : Due) (r : Option (ℕ × State)) → next_due at s ≡ Some d → Weighs l (move d s) r → Weighs (suc l) s (plus_moves r 1)
+      more l s d None e w = omega (arith, w, first_weight-some l at s d e, weighs s d d.kind)
+      more l s d (Some run) e w = omega (arith, w, first_weight-some l at s d e, weighs s d d.kind)
 
 -- ---- that nothing is removed
 
@@ -430,11 +384,12 @@ in_left d [] ys h = absurd h
 in_left d (x ∷ xs) ys (inl e) = inl e
 in_left d (x ∷ xs) ys (inr h) = inr (in_left d xs ys h)
 
-in_filter_map : {A : Type 0} (f : A → Option Due) (e : A) (d : Due) (es : List A) → IsAmong e es → f e ≡ Some d → IsIn d (filter_map f es)
-in_filter_map f e d [] h is = absurd h
-in_filter_map f e d (x ∷ es) (inl same) is =
-    subst (λ o. IsIn d (cons_option o (filter_map f es))) (sym is ∙ ap f same) (inl refl)
-in_filter_map f e d (x ∷ es) (inr h) is = by (f x) (in_filter_map f e d es h is)
+in_filter_map : {A : Type 0} (f : A → Option Due) (e : A) (d : Due) (es : List A) → Contains es e → f e ≡ Some d → IsIn d (filter_map f es)
+in_filter_map f e d [] h is = absurd (none_listed e h)
+in_filter_map f e d (x ∷ es) h is = elim (first_or_rest x e es h) [
+  | inl same ↦ subst (λ o. IsIn d (cons_option o (filter_map f es))) (sym is ∙ ap f (sym same)) (inl refl)
+  | inr rest ↦ by (f x) (in_filter_map f e d es rest is)
+]
   where
     by : (o : Option Due) → IsIn d (filter_map f es) → IsIn d (cons_option o (filter_map f es))
     by None rest = rest
@@ -466,12 +421,8 @@ pub first_is_later : (at : Moment) (alerts : Alerts) (timers : Timers) (kind : K
     → IsFirstOfKind kind (dues_of alerts timers) first → IsSomeAnd first (λ due. due.moment ≤ at) → ⊥
 first_is_later at alerts timers kind None none removal is due = due
 first_is_later at alerts timers kind (Some d) none removal is due =
-    elim (in_either d (map alert_removal_of (entries alerts) ++ filter_map group_removal_of (entries timers)) (map flush_of (entries timers)) (in_has d (dues_of alerts timers) is.1.0)) [
-      | inl removed ↦ let later = removed_later at alerts timers none d removed in absurd (omega (arith, later, due))
-      | inr flushed ↦
-          let e = from_map flush_of d (entries timers) flushed in
-          removal (sym is.0 ∙ ap (λ (x : Due). x.kind) e.2)
-    ]
+    let later = removed_later at alerts timers none d (λ flush. removal (sym is.0 ∙ flush)) (in_has d (dues_of alerts timers) is.1.0) in
+    omega (arith, later, due)
 
 pub none_removed : (at : Moment) (alerts : Alerts) (timers : Timers) (alert group : Option Due) → IsFirstOfKind AlertRemoval (dues_of alerts timers) alert
     → IsFirstOfKind GroupRemoval (dues_of alerts timers) group → IfSome alert (λ due. at < due.moment) → IfSome group (λ due. at < due.moment) → AreNoneRemoved at alerts timers
@@ -483,7 +434,7 @@ none_removed at alerts timers alert group first_alert first_group later_alert la
       (in_left d (map alert_removal_of (entries alerts) ++ filter_map group_removal_of (entries timers)) (map flush_of (entries timers))
       (in_left d (map alert_removal_of (entries alerts)) (filter_map group_removal_of (entries timers)) (in_map alert_removal_of (labels, stored) (entries alerts) among)));
   of_groups = λ key timer removal got is.
-      let d : Due = record { moment = removal; kind = GroupRemoval; route = key.route; labels = key.labels } in
+      let d : Due = removal_at key removal in
       after_first at GroupRemoval (dues_of alerts timers) group first_group later_group d refl
       (in_left d (map alert_removal_of (entries alerts) ++ filter_map group_removal_of (entries timers)) (map flush_of (entries timers))
       (in_right d (map alert_removal_of (entries alerts)) (filter_map group_removal_of (entries timers))
@@ -491,11 +442,11 @@ none_removed at alerts timers alert group first_alert first_group later_alert la
 }
   where
     removal_is : (key : RouteLabels) (timer : GroupTimer) (removal : Moment) → group_removal_at timer ≡ Some removal
-        → group_removal_of (key, timer) ≡ Some (record { moment = removal; kind = GroupRemoval; route = key.route; labels = key.labels })
+        → group_removal_of (key, timer) ≡ Some (removal_at key removal)
     removal_is key timer removal is = by timer.empty_since is
       where
         by : (o : Option Moment) → option_map (λ since. next_multiple_of since (30 * second)) o ≡ Some removal
-            → option_map {U = Due} (λ since. record { moment = next_multiple_of since (30 * second); kind = GroupRemoval; route = key.route; labels = key.labels }) o
-            ≡ Some (record { moment = removal; kind = GroupRemoval; route = key.route; labels = key.labels })
+            → option_map (removal_of key) o
+            ≡ Some (removal_at key removal)
         by None is = absurd (cc)
-        by (Some since) is = ap (option_map {U = Due} (λ m. record { moment = m; kind = GroupRemoval; route = key.route; labels = key.labels })) is
+        by (Some since) is = ap (option_map (removal_at key)) is

@@ -1,5 +1,5 @@
 -- How many members a reload makes: one for each stored alert and each of its chosen routes.
-use Rattle.std.specs.Prelude.{◌≡◌, ℕ, zero, suc, Bool, true, false, T, List, [], ◌∷◌, None, Some, is_some, cond, length, ◌+◌, ◌≤◌}
+use Rattle.std.specs.Prelude.{◌≡◌, ℕ, zero, suc, Bool, true, false, T, List, [], ◌∷◌, None, is_some, cond, length, ◌+◌, ◌≤◌}
 use Rattle.std.specs.List.{fold, filter, range_with_len}
 use Rattle.std.specs.declared.cmp.Ordering.{Ordering}
 use Rattle.std.specs.declared.cmp.Ordering.TheVariants.{Less, Equal}
@@ -9,7 +9,7 @@ use Rattle.std.proofs.Common.{refl, sym, ap, ◌∙◌, arith}
 use Rattle.std.proofs.lemmas.Cmp.{tied_itself}
 use Rattle.std.proofs.lemmas.List.Sums.{sum_by-cons}
 use Rattle.amr_labels.proofs.Sorted.{first, second, less}
-use Rattle.amr_labels.specs.Map.{Map, get, insert, entries, empty, len, get-insert, get-empty, get-entries, entries-insert, entries-sorted}
+use Rattle.amr_labels.specs.Map.{Map, get, insert, entries, empty, len, get-empty, get-entries, entries-insert, entries-sorted}
 use Rattle.amr_labels.specs.Labels.{LabelSet, label_set_cmp, label_set_cmp_total}
 use Rattle.amr_config.specs.Stated.Config.{Config}
 use Rattle.amr_config.specs.Routing.{chosen_routes, is_chosen}
@@ -21,7 +21,7 @@ use Rattle.amr_engine.specs.State.State.{State, insert_into_group, insert_into_g
 use Rattle.amr_engine.specs.Events.{put, with_config}
 use Rattle.amr_engine.specs.Weight.{copies}
 use Rattle.amr_engine.proofs.QuietStays.{apart}
-use Rattle.amr_engine.proofs.PlacedPosts.{inserted_is, inserted_others}
+use Rattle.amr_engine.proofs.PlacedPosts.{placed_elsewhere, inserted_is, inserted_others}
 
 -- a new key makes a map longer by one
 longer : {K X : Type 0} {R : K → K → Ordering} → IsTotalOrder R → (m : Map R X) (k : K) (v : X) → get m k ≡ None → len (insert m k v) ≡ len m + 1
@@ -31,9 +31,7 @@ longer {R = R} o m k v none =
 
 -- a member elsewhere leaves a key free
 still_free : (s : State) (labels : LabelSet) (alert : Alert) (route : ℕ) (q : RouteLabels) → (q ≡ on_route route labels → ⊥) → get s.placements q ≡ None → get (insert_into_group labels alert s route).placements q ≡ None
-still_free s labels alert route q differ free =
-    get-insert route_labels_cmp_total s.placements (on_route route labels) alert q
-    ∙ ap (λ b. cond b (Some alert) (get s.placements q)) (apart route_labels_cmp-IsAntisymmetric q (on_route route labels) differ) ∙ free
+still_free s labels alert route q differ free = placed_elsewhere labels alert s route q (apart route_labels_cmp-IsAntisymmetric q (on_route route labels) differ) ∙ free
 
 -- no member has these labels, on the routes from a number on
 abbrev pub IsFree : State → LabelSet → ℕ → Type 0

@@ -1,8 +1,11 @@
 -- Who was notified of some members needn't be notified of fewer.
-use Rattle.std.specs.Prelude.{◌≡◌, Bool, true, false, not, ◌&&◌, ◌||◌, List, [], ◌∷◌, Option, Some, None, map, cond, nat_lt, ◌+◌}
+use Rattle.std.specs.Prelude.{◌≡◌, Bool, true, false, not, ◌&&◌, ◌||◌, List, [], ◌∷◌, Option, Some, None, map, nat_lt, ◌+◌}
 use Rattle.std.specs.List.{list_all, filter}
 use Rattle.std.proofs.Common.{refl, sym, ap, ◌∙◌}
 use Rattle.std.proofs.lemmas.Bool.{and_parts, not-true}
+use Rattle.std.proofs.lemmas.List.Elements.{All-filter}
+use Rattle.std.proofs.lemmas.List.Folds.{list_all-map}
+use Rattle.std.proofs.lemmas.List.Sums.{AllPass-from_list_all, list_all-from_AllPass}
 use Rattle.amr_labels.specs.Map.{get}
 use Rattle.amr_labels.specs.Set.{is_subset, is_empty, contains}
 use Rattle.amr_labels.specs.Labels.{LabelSet}
@@ -18,16 +21,18 @@ use Rattle.amr_engine.specs.State.State.{State}
 use Rattle.amr_engine.specs.Flush.{Members, labels_of, log_key_of}
 use Rattle.amr_engine.specs.Quiet.{no_repeat_before, is_notified, are_notified}
 
+-- a test of a list that follows from another for each item
+pub all_weaker : {X : Type 0} (p q : X → Bool) → ((x : X) → p x ≡ true → q x ≡ true) → (xs : List X) → list_all p xs ≡ true → list_all q xs ≡ true
+all_weaker p q then xs all = list_all-from_AllPass q xs (λ k d less. then _ (AllPass-from_list_all p xs all k d less))
+
+-- a test of all items, for those that another test keeps
+pub all_filter : {X : Type 0} (f p : X → Bool) (xs : List X) → list_all f xs ≡ true → list_all f (filter p xs) ≡ true
+all_filter f p xs all = list_all-from_AllPass f (filter p xs) (All-filter p (λ x. f x ≡ true) xs (AllPass-from_list_all f xs all))
+
 -- ---- a set of fewer members
 
 all_kept : (f : LabelSet → Bool) (p : LabelSet × Alert → Bool) (ms : Members) → list_all f (map (λ member. member.0) ms) ≡ true → list_all f (map (λ member. member.0) (filter p ms)) ≡ true
-all_kept f p [] all = refl
-all_kept f p (m ∷ ms) all =
-    let parts = and_parts (f m.0) (list_all f (map (λ member. member.0) ms)) all in
-    elim (p m) as (λ b. list_all f (map (λ member. member.0) (cond b (m ∷ filter p ms) (filter p ms))) ≡ true) [
-      | true ↦ (λ i. parts.0 i && all_kept f p ms parts.1 i)
-      | false ↦ all_kept f p ms parts.1
-    ]
+all_kept f p ms all = list_all-map f (λ (m : LabelSet × Alert). m.0) (filter p ms) ∙ all_filter (λ m. f m.0) p ms (sym (list_all-map f (λ (m : LabelSet × Alert). m.0) ms) ∙ all)
 
 fewer : (p : LabelSet × Alert → Bool) (ms : Members) (found : LabelSets) → is_subset (labels_of ms) found ≡ true → is_subset (labels_of (filter p ms)) found ≡ true
 fewer p ms found all =
@@ -64,18 +69,13 @@ module _ (s : State) (group : RouteLabels) (from until : Moment) (firing fewer_f
       let parts = and_parts (not (needs_update entry firing (labels_of []) integration.send_resolved from interval)) (no_repeat_before until interval entry) notified in
       (λ i. not (fewer_fire entry firing fewer_firing (labels_of []) integration.send_resolved from interval some some_fewer then (not-true _ parts.0) i) && parts.1 i)
 
-  each_notified : (integrations : List Integration) → list_all (is_notified s group from until firing) integrations ≡ true → list_all (is_notified s group from until fewer_firing) integrations ≡ true
-  each_notified [] notified = refl
-  each_notified (integration ∷ integrations) notified =
-      let parts = and_parts (is_notified s group from until firing integration) (list_all (is_notified s group from until firing) integrations) notified in
-      (λ i. one_notified integration parts.0 i && each_notified integrations parts.1 i)
-
 module _ (s : State) (group : RouteLabels) (from until : Moment) where
   among_notified : (m : LabelSet × Alert) (ms kept : Members) → ((found : LabelSets) → is_subset (labels_of (m ∷ ms)) found ≡ true → is_subset (labels_of kept) found ≡ true)
       → are_notified s group from until (m ∷ ms) ≡ true → are_notified s group from until kept ≡ true
   among_notified m ms [] then notified = refl
   among_notified m ms (k ∷ kept) then notified =
-      each_notified s group from until (labels_of (m ∷ ms)) (labels_of (k ∷ kept)) (some_labels m ms) (some_labels k kept) then (integrations_of s.config group.route) notified
+      all_weaker (is_notified s group from until (labels_of (m ∷ ms))) (is_notified s group from until (labels_of (k ∷ kept)))
+      (one_notified s group from until (labels_of (m ∷ ms)) (labels_of (k ∷ kept)) (some_labels m ms) (some_labels k kept) then) (integrations_of s.config group.route) notified
 
   -- who was notified of all members was notified of those that a test keeps
   pub fewer_notified : (p : LabelSet × Alert → Bool) (ms : Members) → are_notified s group from until ms ≡ true → are_notified s group from until (filter p ms) ≡ true

@@ -1,25 +1,24 @@
 -- More moves are due than the limit if one group alone is flushed more often.
-use Rattle.std.specs.Prelude.{◌≡◌, ℕ, zero, suc, true, false, List, [], ◌∷◌, ◌++◌, Option, Some, None, length, ◌≤◌, ◌<◌, ◌+◌, ◌-◌, ◌*◌, ◌==◌, nat_le, if◌then◌else◌, cond, map, option_map, ◌⊎◌}
-use Rattle.std.specs.List.{fold, filter_map, cons_option}
+use Rattle.std.specs.Prelude.{◌≡◌, ℕ, zero, suc, true, false, List, [], ◌∷◌, ◌++◌, Option, Some, None, length, ◌≤◌, ◌<◌, ◌+◌, ◌-◌, ◌*◌, ◌==◌, nat_le, cond, map, option_map, ◌⊎◌}
+use Rattle.std.specs.List.{Contains, fold, filter_map, cons_option}
 use Rattle.std.specs.Option.{option_map_or}
-use Rattle.std.specs.Ordering.{eq_by_cmp, is_eq}
 use Rattle.std.proofs.Common.{refl, sym, ap, ◌∙◌, subst, inl, inr, arith}
 use Rattle.std.proofs.lemmas.Bool.{leb-true}
-use Rattle.std.proofs.lemmas.Cmp.{tied_itself}
-use Rattle.std.proofs.lemmas.Map.Views.{tells_apart}
-use Rattle.amr_labels.specs.Map.{Map, get, insert, entries, get-insert, get-remove}
-use Rattle.amr_labels.specs.Labels.{LabelSet}
+use Rattle.std.proofs.lemmas.Option.{cond_some, same_Some}
+use Rattle.amr_labels.specs.Map.{Map, get, insert, entries, get-remove}
+use Rattle.amr_labels.specs.Labels.{LabelSet, label_set_cmp_total, label_set_cmp-IsAntisymmetric}
 use Rattle.amr_time.specs.Time.{Moment, second, next_multiple_of}
 use Rattle.amr_config.specs.Stated.Config.{Config}
 use Rattle.amr_config.specs.Routing.{group_interval_of}
 use Rattle.amr_rules.specs.declared.alert.Alert.{Alert}
+use Rattle.amr_rules.specs.Muting.{Alerts}
 use Rattle.amr_engine.specs.declared.state.notification.GroupTimer.{GroupTimer}
 use Rattle.amr_config.specs.declared.route_labels.RouteLabels.{RouteLabels}
 use Rattle.amr_engine.specs.declared.state.due.Kind.TheVariants.{GroupRemoval}
 use Rattle.amr_config.specs.RouteLabels.{route_labels_cmp, route_labels_cmp_total, route_labels_cmp-IsAntisymmetric}
 use Rattle.amr_engine.specs.State.State.{State, members, members_among}
-use Rattle.amr_engine.specs.State.Dues.{Due, alert_removal_of, group_removal_of, flush_of, least_due, due_by, dues, next_due}
-use Rattle.amr_engine.specs.Flush.{Members, let_through, notify_receiver, set_timer, drop_member, mark_if_empty, drop_resolved, run_pipeline, flush}
+use Rattle.amr_engine.specs.State.Dues.{Due, alert_removal_of, group_removal_of, flush_of, least_due, due_by, dues_of, dues, next_due}
+use Rattle.amr_engine.specs.Flush.{Members, let_through, notify_receiver, drop_member, mark_if_empty, drop_resolved, run_pipeline, flush}
 use Rattle.amr_engine.specs.Quiet.{all_fire_until, with_timer_reset}
 use Rattle.amr_engine.specs.Runs.{after_step}
 use Rattle.amr_engine.specs.Moves.{move, advance}
@@ -28,8 +27,9 @@ use Rattle.amr_engine.specs.Lasting.{Lasts, IsFlushedBeyond}
 use Rattle.amr_engine.proofs.MovesLaws.{least_due-IsLeast, Advances-ends}
 use Rattle.amr_engine.proofs.MovesNoted.{next_is_first}
 use Rattle.amr_engine.proofs.QuietLaws.{firing_all, resolved_none}
-use Rattle.amr_engine.proofs.QuietStays.{apart, flush_leaves}
-use Rattle.amr_engine.proofs.PlacedLists.{IsAmong, among_entries, get-among}
+use Rattle.amr_engine.proofs.QuietStays.{apart, other_timer, flush_leaves}
+use Rattle.amr_engine.proofs.Listed.{none_listed, first_or_rest, listed_first, listed_later}
+use Rattle.amr_engine.proofs.PlacedLists.{among_entries, get-among, get-inserted, same_or_apart}
 use Rattle.amr_engine.proofs.TickLaws.{Judged, move_keeps}
 use Rattle.amr_engine.proofs.MovesKeep.{notify_receiver_holds, flush_holds}
 
@@ -38,24 +38,10 @@ use Rattle.amr_engine.proofs.MovesKeep.{notify_receiver_holds, flush_holds}
 abbrev Timers : Type 0
 Timers = Map route_labels_cmp GroupTimer
 
-pub timer_among : (timers : Timers) (group : RouteLabels) (timer : GroupTimer) → get timers group ≡ Some timer → IsAmong (group, timer) (entries timers)
+pub timer_among : (timers : Timers) (group : RouteLabels) (timer : GroupTimer) → get timers group ≡ Some timer → Contains (entries timers) (group, timer)
 timer_among timers group timer e = among_entries route_labels_cmp_total route_labels_cmp-IsAntisymmetric timers group timer e
 
--- the dues of alerts, of empty groups and of all groups
-abbrev pub alert_dues : State → List Due
-alert_dues s = map alert_removal_of (entries s.alerts)
-
-abbrev pub empty_dues : State → List Due
-empty_dues s = filter_map group_removal_of (entries s.timers)
-
-abbrev pub flush_dues : State → List Due
-flush_dues s = map flush_of (entries s.timers)
-
-pub dues_are : (s : State) → dues s ≡ (alert_dues s ++ empty_dues s) ++ flush_dues s
-unfolding dues
-dues_are s = refl
-
-pub timer_got : (timers : Timers) (group : RouteLabels) (timer : GroupTimer) → IsAmong (group, timer) (entries timers) → get timers group ≡ Some timer
+pub timer_got : (timers : Timers) (group : RouteLabels) (timer : GroupTimer) → Contains (entries timers) (group, timer) → get timers group ≡ Some timer
 timer_got timers group timer among = get-among route_labels_cmp_total route_labels_cmp-IsAntisymmetric timers group timer among
 
 -- ---- where a due comes from
@@ -72,40 +58,68 @@ in_either d (x ∷ xs) ys (inr h) = elim (in_either d xs ys h) [
   | inr h ↦ inr h
 ]
 
-pub in_map : {A : Type 0} (f : A → Due) (e : A) (es : List A) → IsAmong e es → IsIn (f e) (map f es)
-in_map f e [] h = absurd h
-in_map f e (x ∷ es) (inl is) = inl (ap f is)
-in_map f e (x ∷ es) (inr h) = inr (in_map f e es h)
+pub in_map : {A : Type 0} (f : A → Due) (e : A) (es : List A) → Contains es e → IsIn (f e) (map f es)
+in_map f e [] h = absurd (none_listed e h)
+in_map f e (x ∷ es) h = elim (first_or_rest x e es h) [ inl same ↦ inl (ap f (sym same)) | inr rest ↦ inr (in_map f e es rest) ]
 
-pub from_map : {A : Type 0} (f : A → Due) (d : Due) (es : List A) → IsIn d (map f es) → (e : A) × IsAmong e es × (d ≡ f e)
+pub from_map : {A : Type 0} (f : A → Due) (d : Due) (es : List A) → IsIn d (map f es) → (e : A) × Contains es e × (d ≡ f e)
 from_map f d [] h = absurd h
-from_map f d (x ∷ es) (inl is) = (x, inl refl, is)
-from_map f d (x ∷ es) (inr h) = let r = from_map f d es h in (r.0, inr r.1, r.2)
+from_map f d (x ∷ es) (inl is) = (x, listed_first x es, is)
+from_map f d (x ∷ es) (inr h) = let r = from_map f d es h in (r.0, listed_later x r.0 es r.1, r.2)
 
-pub from_filter_map : {A : Type 0} (f : A → Option Due) (d : Due) (es : List A) → IsIn d (filter_map f es) → (e : A) × IsAmong e es × (f e ≡ Some d)
+pub from_filter_map : {A : Type 0} (f : A → Option Due) (d : Due) (es : List A) → IsIn d (filter_map f es) → (e : A) × Contains es e × (f e ≡ Some d)
 from_filter_map f d [] h = absurd h
 from_filter_map {A} f d (x ∷ es) h =
-    elim (f x) as (λ o. f x ≡ o → IsIn d (cons_option o (filter_map f es)) → (e : A) × IsAmong e (x ∷ es) × (f e ≡ Some d)) [
-      | None ↦ λ is h. let r = from_filter_map f d es h in (r.0, inr r.1, r.2)
+    elim (f x) as (λ o. f x ≡ o → IsIn d (cons_option o (filter_map f es)) → (e : A) × Contains (x ∷ es) e × (f e ≡ Some d)) [
+      | None ↦ λ is h. let r = from_filter_map f d es h in (r.0, listed_later x r.0 es r.1, r.2)
       | Some y ↦ λ is. elim [
-        | inl same ↦ (x, inl refl, is ∙ ap (λ (z : Due). Some z) (sym same))
-        | inr h ↦ let r = from_filter_map f d es h in (r.0, inr r.1, r.2)
+        | inl same ↦ (x, listed_first x es, is ∙ ap (λ (z : Due). Some z) (sym same))
+        | inr h ↦ let r = from_filter_map f d es h in (r.0, listed_later x r.0 es r.1, r.2)
       ]
     ] refl h
 
-pub flush_is_due : (s : State) (group : RouteLabels) (timer : GroupTimer) → get s.timers group ≡ Some timer → IsIn (flush_of (group, timer)) (dues s)
+flush_is_due : (s : State) (group : RouteLabels) (timer : GroupTimer) → get s.timers group ≡ Some timer → IsIn (flush_of (group, timer)) (dues s)
+unfolding dues
 flush_is_due s group timer timed =
-    subst (IsIn (flush_of (group, timer))) (sym (dues_are s))
-    (in_right (flush_of (group, timer)) (alert_dues s ++ empty_dues s) (flush_dues s)
-    (in_map flush_of (group, timer) (entries s.timers) (timer_among s.timers group timer timed)))
+    in_right (flush_of (group, timer)) (map alert_removal_of (entries s.alerts) ++ filter_map group_removal_of (entries s.timers)) (map flush_of (entries s.timers))
+    (in_map flush_of (group, timer) (entries s.timers) (timer_among s.timers group timer timed))
+
+-- the removal of a group at a moment, and of one that is empty since a moment
+abbrev pub removal_at : RouteLabels → Moment → Due
+removal_at group moment = record { moment = moment; kind = GroupRemoval; route = group.route; labels = group.labels }
+
+abbrev pub removal_of : RouteLabels → Moment → Due
+removal_of group since = removal_at group (next_multiple_of since (30 * second))
+
+-- what holds of the removal of each alert, of the removal of each empty group and of the flush of
+-- each group holds of all that is due
+module _ (alerts : Alerts) (timers : Timers) (P : Due → Type 0) (removed : (labels : LabelSet) (alert : Alert) → get alerts labels ≡ Some alert → P (alert_removal_of (labels, alert)))
+    (emptied : (group : RouteLabels) (timer : GroupTimer) (since : Moment) → get timers group ≡ Some timer → timer.empty_since ≡ Some since → P (removal_of group since))
+    (flushed : (group : RouteLabels) (timer : GroupTimer) → get timers group ≡ Some timer → P (flush_of (group, timer))) (d : Due) where
+  if_emptied : (group : RouteLabels) (timer : GroupTimer) → get timers group ≡ Some timer → (o : Option Moment) → timer.empty_since ≡ o → option_map (removal_of group) o ≡ Some d → P d
+  if_emptied group timer timed None e is = absurd (cc)
+  if_emptied group timer timed (Some since) e is = let same : removal_of group since ≡ d = cc in subst P same (emptied group timer since timed e)
+
+  pub due_holds : IsIn d (dues_of alerts timers) → P d
+  due_holds among = elim (in_either d (map alert_removal_of (entries alerts) ++ filter_map group_removal_of (entries timers)) (map flush_of (entries timers)) among) [
+    | inl front ↦ elim (in_either d (map alert_removal_of (entries alerts)) (filter_map group_removal_of (entries timers)) front) [
+      | inl alert ↦
+          let e = from_map alert_removal_of d (entries alerts) alert in
+          subst P (sym e.2) (removed e.0.0 e.0.1 (get-among label_set_cmp_total label_set_cmp-IsAntisymmetric alerts e.0.0 e.0.1 e.1))
+      | inr empty ↦
+          let e = from_filter_map group_removal_of d (entries timers) empty in
+          if_emptied e.0.0 e.0.1 (timer_got timers e.0.0 e.0.1 e.1) e.0.1.empty_since refl e.2
+    ]
+    | inr flushes ↦
+        let e = from_map flush_of d (entries timers) flushes in
+        subst P (sym e.2) (flushed e.0.0 e.0.1 (timer_got timers e.0.0 e.0.1 e.1))
+  ]
 
 by_moment : (at : Moment) (o : Option Due) (d : Due) → due_by at o ≡ Some d → d.moment ≤ at
 by_moment at None d e = absurd (cc)
 by_moment at (Some least) d e =
-    elim (nat_le least.moment at) as (λ b. nat_le least.moment at ≡ b → (if b then Some least else None) ≡ Some d → d.moment ≤ at) [
-      | true ↦ λ is e. let same : least ≡ d = cc in subst (λ (x : Due). x.moment ≤ at) same (leb-true least.moment at is)
-      | false ↦ λ is e. absurd (cc)
-    ] refl e
+    let is = cond_some (nat_le least.moment at) least d e in
+    subst (λ (x : Due). x.moment ≤ at) is.1 (leb-true least.moment at is.0)
 
 pub next_is_due : (at : Moment) (s : State) (d : Due) → next_due at s ≡ Some d → IsIn d (dues s) × (d.moment ≤ at)
 unfolding next_due
@@ -128,15 +142,8 @@ module _ (at : Moment) (group : RouteLabels) where
 
   -- the flush of another group leaves it its timer
   module _ (other : RouteLabels) (differ : group ≡ other → ⊥) where
-    set_other : (change : GroupTimer → GroupTimer) (s : State) → get (set_timer other change s).timers group ≡ get s.timers group
-    set_other change s =
-        elim (get s.timers other) as (λ o. get (option_map_or (λ timer. insert s.timers other (change timer)) o s.timers) group ≡ get s.timers group) [
-          | None ↦ refl
-          | Some timer ↦ get-insert route_labels_cmp_total s.timers other (change timer) group ∙ ap (λ b. cond b (Some (change timer)) (get s.timers group)) (apart route_labels_cmp-IsAntisymmetric group other differ)
-        ]
-
     flush_other : (m : Moment) (s : State) → get (flush m other s).timers group ≡ get s.timers group
-    flush_other m s = flush_holds (λ x. get x.timers group ≡ get s.timers group) other (λ change x e. set_other change x ∙ e) (λ _ _ e. e) (λ _ _ _ _ e. e) m s refl
+    flush_other m s = flush_holds (λ x. get x.timers group ≡ get s.timers group) other (λ change x e. other_timer group other differ change x ∙ e) (λ _ _ e. e) (λ _ _ _ _ e. e) m s refl
 
     lasts_by_other : (m : Moment) (s : State) (timer : GroupTimer) → Lasts s at group timer → Lasts (flush m other s) at group timer
     lasts_by_other m s timer lasts =
@@ -171,8 +178,7 @@ module _ (at : Moment) (group : RouteLabels) where
   reset_timed : (m : Moment) (s : State) (timer : GroupTimer) → get s.timers group ≡ Some timer → get (with_timer_reset m group s).timers group ≡ Some (reset m s timer)
   reset_timed m s timer timed =
       ap (λ (o : Option GroupTimer). get (option_map_or (λ t. insert s.timers group (reset m s t)) o s.timers) group) timed
-      ∙ get-insert route_labels_cmp_total s.timers group (reset m s timer) group
-      ∙ ap (λ o. cond (is_eq o) (Some (reset m s timer)) (get s.timers group)) (tied_itself route_labels_cmp_total group)
+      ∙ get-inserted route_labels_cmp_total route_labels_cmp-IsAntisymmetric s.timers group (reset m s timer)
 
   lasts_by_own : (m : Moment) (s : State) (timer : GroupTimer) → m ≤ at → Lasts s at group timer → Lasts (flush m group s) at group (reset m s timer)
   lasts_by_own m s timer soon lasts =
@@ -200,12 +206,9 @@ module _ (at : Moment) (group : RouteLabels) where
     soon = omega arith;
   }
 
-  abbrev removal : Moment → RouteLabels → Due
-  removal m other = record { moment = m; kind = GroupRemoval; route = other.route; labels = other.labels }
-
-  by_removal : (s : State) (timer : GroupTimer) (m : Moment) (other : RouteLabels) → (group ≡ other → ⊥) → Lasts s at group timer → Next s timer (removal m other)
+  by_removal : (s : State) (timer : GroupTimer) (since : Moment) (other : RouteLabels) → (group ≡ other → ⊥) → Lasts s at group timer → Next s timer (removal_of other since)
   unfolding move members
-  by_removal s timer m other differ lasts = record {
+  by_removal s timer since other differ lasts = record {
     after = timer;
     lasts = record {
       timed = get-remove route_labels_cmp_total s.timers other group
@@ -220,61 +223,33 @@ module _ (at : Moment) (group : RouteLabels) where
 
   by_flush : (s : State) (timer : GroupTimer) (other : RouteLabels) (its : GroupTimer) → get s.timers other ≡ Some its → its.next_flush ≤ at → Lasts s at group timer → Next s timer (flush_of (other, its))
   unfolding move
-  by_flush s timer other its timed soon lasts =
-      elim (eq_by_cmp route_labels_cmp group other) as (λ b. eq_by_cmp route_labels_cmp group other ≡ b → Next s timer (flush_of (other, its))) [
-        | true ↦ λ is.
-            let same : group ≡ other = tells_apart route_labels_cmp-IsAntisymmetric group other is in
-            let mine : timer ≡ its =
-            ap (λ (o : Option GroupTimer). option_map_or (λ t. t) o timer) (sym lasts.timed ∙ ap (λ (g : RouteLabels). get s.timers g) same ∙ timed) in
-            subst (λ (x : RouteLabels × GroupTimer). Next s timer (flush_of x)) (λ i. (same i, mine i)) (record {
-              after = reset timer.next_flush s timer;
-              lasts = lasts_by_own timer.next_flush s timer (subst (λ (t : GroupTimer). t.next_flush ≤ at) (sym mine) soon) lasts;
-              soon = omega arith;
-            })
-        | false ↦ λ is. record {
-          after = timer;
-          lasts = lasts_by_other other (λ same. absurd (cc (is, ap is_eq (ap (λ (g : RouteLabels). route_labels_cmp group g) (sym same) ∙ tied_itself route_labels_cmp_total group)))) its.next_flush s timer lasts;
+  by_flush s timer other its timed soon lasts = elim (same_or_apart route_labels_cmp_total route_labels_cmp-IsAntisymmetric group other) [
+    | inl same ↦
+        let mine : timer ≡ its = same_Some timer its (sym lasts.timed ∙ ap (λ (g : RouteLabels). get s.timers g) same ∙ timed) in
+        subst (λ (x : RouteLabels × GroupTimer). Next s timer (flush_of x)) (λ i. (same i, mine i)) (record {
+          after = reset timer.next_flush s timer;
+          lasts = lasts_by_own timer.next_flush s timer (subst (λ (t : GroupTimer). t.next_flush ≤ at) (sym mine) soon) lasts;
           soon = omega arith;
-        }
-      ] refl
-
-  removed_empty : (s : State) (timer : GroupTimer) (entry : RouteLabels × GroupTimer) (d : Due) → Lasts s at group timer → get s.timers entry.0 ≡ Some entry.1 → group_removal_of entry ≡ Some d → Next s timer d
-  removed_empty s timer entry d lasts timed is = by entry.1.empty_since refl is
-    where
-      by : (o : Option Moment) → entry.1.empty_since ≡ o
-          → option_map (λ since. record { moment = next_multiple_of since (30 * second); kind = GroupRemoval; route = entry.0.route; labels = entry.0.labels }) o ≡ Some d → Next s timer d
-      by None e is = absurd (cc)
-      by (Some since) e is =
-          let same : removal (next_multiple_of since (30 * second)) entry.0 ≡ d = cc in
-          subst (Next s timer) same (by_removal s timer (next_multiple_of since (30 * second)) entry.0
-          (λ mine. absurd (cc (e, lasts.full, ap (λ (o : Option GroupTimer). option_map_or (λ t. t.empty_since) o None) (sym lasts.timed ∙ ap (λ (g : RouteLabels). get s.timers g) mine ∙ timed)))) lasts)
-
-  by_one : (s : State) (timer : GroupTimer) (d : Due) → Lasts s at group timer → IsIn d (alert_dues s ++ empty_dues s) ⊎ IsIn d (flush_dues s) → d.moment ≤ at → Next s timer d
-  by_one s timer d lasts (inl removal) soon = elim (in_either d (alert_dues s) (empty_dues s) removal) [
-    | inl alert ↦
-        let e = from_map alert_removal_of d (entries s.alerts) alert in
-        subst (Next s timer) (sym e.2) (by_alert s timer e.0 lasts)
-    | inr empty ↦
-        let e = from_filter_map group_removal_of d (entries s.timers) empty in
-        removed_empty s timer e.0 d lasts (timer_got s.timers e.0.0 e.0.1 e.1) e.2
+        })
+    | inr apart ↦ record { after = timer; lasts = lasts_by_other other apart.0 its.next_flush s timer lasts; soon = omega arith }
   ]
-  by_one s timer d lasts (inr flushed) soon =
-      let e = from_map flush_of d (entries s.timers) flushed in
-      subst (Next s timer) (sym e.2) (by_flush s timer e.0.0 e.0.1 (timer_got s.timers e.0.0 e.0.1 e.1) (subst (λ (x : Due). x.moment ≤ at) e.2 soon) lasts)
 
   after_move : (s : State) (timer : GroupTimer) (d : Due) → Lasts s at group timer → next_due at s ≡ Some d → Next s timer d
+  unfolding dues
   after_move s timer d lasts next =
       let due = next_is_due at s d next in
-      by_one s timer d lasts (in_either d (alert_dues s ++ empty_dues s) (flush_dues s) (subst (IsIn d) (dues_are s) due.0)) due.1
+      due_holds s.alerts s.timers (λ d. d.moment ≤ at → Next s timer d) (λ labels alert _ _. by_alert s timer (labels, alert) lasts)
+      (λ other its since timed empty _. by_removal s timer since other
+      (λ mine. absurd (cc (empty, lasts.full, ap (λ (o : Option GroupTimer). option_map_or (λ t. t.empty_since) o None) (sym lasts.timed ∙ ap (λ (g : RouteLabels). get s.timers g) mine ∙ timed)))) lasts)
+      (λ other its timed soon. by_flush s timer other its timed soon lasts) d due.0 due.1
 
   pub some_due : (s : State) (timer : GroupTimer) → get s.timers group ≡ Some timer → timer.next_flush ≤ at → (d : Due) × (next_due at s ≡ Some d)
-  some_due s timer timed soon = by (next_due at s) refl
-    where
-      by : (o : Option Due) → next_due at s ≡ o → (d : Due) × (next_due at s ≡ Some d)
-      by None e =
-          let later : at < timer.next_flush = Advances-ends at s [] s (e, refl) (flush_of (group, timer)) (flush_is_due s group timer timed) in
-          absurd (omega (arith, later, soon))
-      by (Some d) e = (d, e)
+  some_due s timer timed soon = elim (next_due at s) as (λ o. next_due at s ≡ o → (d : Due) × (next_due at s ≡ Some d)) [
+    | None ↦ λ e.
+        let later : at < timer.next_flush = Advances-ends at s [] s (e, refl) (flush_of (group, timer)) (flush_is_due s group timer timed) in
+        absurd (omega (arith, later, soon))
+    | Some d ↦ λ e. (d, e)
+  ] refl
 
   one_less : (left interval next after at : ℕ) → next + suc left * interval ≤ at → after ≤ next + interval → after + left * interval ≤ at
   one_less left interval next after at late soon = omega arith

@@ -1,13 +1,13 @@
 -- The items of a list, and of the set that is made of it.
 use Rattle.std.specs.Prelude.{◌≡◌, ◌<◌, ◌⊎◌, Bool, true, false, List, [], ◌∷◌, Some, None, map, cond, length, ◌==◌}
-use Rattle.std.specs.List.{Contains, filter, flat_map, list_all, list_any}
+use Rattle.std.specs.List.{Contains, filter, flat_map, list_any}
 use Rattle.std.specs.Option.{is_some}
 use Rattle.std.specs.Ordering.{eq_by_cmp}
 use Rattle.std.proofs.Common.{refl, sym, ap, ◌∙◌, subst, inl, inr, arith, zero, suc}
 use Rattle.std.proofs.lemmas.Cmp.{eq_by_cmp_equiv}
-use Rattle.std.proofs.lemmas.List.Elements.{Contains-append_cases}
+use Rattle.std.proofs.lemmas.List.Elements.{All-contains, Contains-append_cases}
+use Rattle.std.proofs.lemmas.List.Sums.{AllPass-from_list_all}
 use Rattle.std.proofs.lemmas.Map.Views.{list_any-from_Contains, Contains-from_any, tells_apart}
-use Rattle.std.proofs.lemmas.Bool.{and_parts}
 use Rattle.std.proofs.lemmas.Bool.Decides.{nat_tests}
 use Rattle.amr_labels.specs.Set.{contains, from_list, is_subset}
 use Rattle.amr_labels.specs.Labels.{LabelSet, label_set_cmp, label_set_cmp_total, label_set_cmp-IsAntisymmetric}
@@ -89,15 +89,6 @@ listed_in_set ks q h = Contains-from_any (tells_apart label_set_cmp-IsAntisymmet
 pub in_set : (ks : List LabelSet) (q : LabelSet) → Contains ks q → contains (from_list {R = label_set_cmp} ks) q ≡ true
 in_set ks q h = set_contains ks q ∙ list_any-from_Contains (eq_by_cmp_equiv label_set_cmp_total) q ks h
 
-passes_each : (f : LabelSet → Bool) (ks : List LabelSet) (q : LabelSet) → list_all f ks ≡ true → Contains ks q → f q ≡ true
-passes_each f [] q all h = absurd (none_listed q h)
-passes_each f (k ∷ ks) q all h =
-    let parts = and_parts (f k) (list_all f ks) all in
-    elim (first_or_rest k q ks h) [
-      | inl same ↦ ap f (sym same) ∙ parts.0
-      | inr rest ↦ passes_each f ks q parts.1 rest
-    ]
-
 -- and in each set of which that set is a subset
 pub in_superset : (ks : List LabelSet) (found : LabelSets) (q : LabelSet) → is_subset (from_list ks) found ≡ true → Contains ks q → contains found q ≡ true
-in_superset ks found q all h = passes_each (contains found) ks q (sym (all_in (contains found) ks) ∙ all) h
+in_superset ks found q all h = All-contains (λ (k : LabelSet). contains found k ≡ true) ks q (AllPass-from_list_all (contains found) ks (sym (all_in (contains found) ks) ∙ all)) h

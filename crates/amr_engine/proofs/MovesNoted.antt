@@ -3,6 +3,7 @@ use Rattle.std.specs.Prelude.{◌≡◌, ◌⊎◌, ℕ, zero, suc, Bool, true, 
 use Rattle.std.specs.Option.{option_map_or}
 use Rattle.std.proofs.Common.{inl, inr, Result, Ok, Err, OnOk, OnErr, refl, sym, ap, ◌∙◌, subst, arith}
 use Rattle.std.proofs.lemmas.Bool.Decides.{nat_tests}
+use Rattle.std.proofs.lemmas.Option.{cond_some}
 use Rattle.amr_time.specs.Time.{Moment}
 use Rattle.amr_engine.specs.State.State.{State}
 use Rattle.amr_engine.specs.State.Dues.{Due, dues, least_due, due_by, next_due}
@@ -12,11 +13,7 @@ use Rattle.amr_engine.specs.QuietMoves.{first_due, after_first_move, after_first
 -- a timer that is due by a moment is the first of all
 first_by : (at : Moment) (first : Option Due) (due : Due) → due_by at first ≡ Some due → first ≡ Some due
 first_by at None due is = absurd (cc)
-first_by at (Some first) due is =
-    elim (nat_le first.moment at) as (λ b. (if b then Some first else None) ≡ Some due → Some first ≡ Some due) [
-      | true ↦ λ e. e
-      | false ↦ λ e. absurd (cc)
-    ] is
+first_by at (Some first) due is = ap (λ (d : Due). Some d) (cond_some (nat_le first.moment at) first due is).1
 
 pub next_is_first : (at : Moment) (s : State) (due : Due) → Some due ≡ next_due at s → first_due s ≡ Some due
 unfolding next_due

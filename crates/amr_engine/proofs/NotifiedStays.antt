@@ -1,6 +1,6 @@
 -- What leaves a group notified: all but flushes of the group, posts of its alerts, and a reload.
-use Rattle.std.specs.Prelude.{◌≡◌, ◌<◌, ℕ, Bool, false, not, ◌&&◌, List, [], ◌∷◌, Some, cond, map, length, ◌⊎◌}
-use Rattle.std.specs.List.{list_all, filter, fold}
+use Rattle.std.specs.Prelude.{◌≡◌, ◌<◌, ℕ, Bool, false, List, [], ◌∷◌, Some, cond, map, length, ◌⊎◌}
+use Rattle.std.specs.List.{filter, fold}
 use Rattle.std.specs.Ordering.{eq_by_cmp}
 use Rattle.std.specs.FinMap.Entries.{put, by_order}
 use Rattle.std.specs.declared.cmp.Ordering.{Ordering}
@@ -12,11 +12,10 @@ use Rattle.amr_labels.specs.Labels.{LabelSet}
 use Rattle.amr_time.specs.Time.{Moment}
 use Rattle.amr_config.specs.declared.stated.receiver.Integration.{Integration}
 use Rattle.amr_config.specs.Stated.Config.{Config}
-use Rattle.amr_config.specs.Routing.{HasOwnPath, chosen_routes, integrations_of, repeat_interval_of}
+use Rattle.amr_config.specs.Routing.{HasOwnPath, chosen_routes}
 use Rattle.amr_config.specs.Groups.{groups_of, group_at}
 use Rattle.amr_rules.specs.declared.alert.Alert.{Alert}
 use Rattle.amr_rules.specs.Alerts.{alert_to_store}
-use Rattle.amr_rules.specs.Dedup.{LabelSets, needs_update}
 use Rattle.amr_rules.specs.Muting.{Alerts}
 use Rattle.amr_rules.specs.Silences.{Silences}
 use Rattle.amr_engine.specs.declared.state.notification.LogKey.{LogKey}
@@ -28,38 +27,24 @@ use Rattle.amr_engine.specs.State.State.{State, group_key, members, insert_into_
 use Rattle.amr_engine.specs.declared.quiet.Period.{Period}
 use Rattle.amr_engine.specs.declared.quiet.QuietTime.{QuietTime}
 use Rattle.amr_engine.specs.Events as events
-use Rattle.amr_engine.specs.Flush.{Members, labels_of, log_key_of}
-use Rattle.amr_engine.specs.Quiet.{no_repeat_before, is_notified, are_notified, IsAllNotified, LeavesOthers}
+use Rattle.amr_engine.specs.Flush.{log_key_of}
+use Rattle.amr_engine.specs.Quiet.{IsAllNotified, LeavesOthers}
 use Rattle.amr_engine.specs.CachedQuiet.{Times, IsNotifiedIn, without_joined}
 use Rattle.amr_engine.proofs.PlacedLists.{get-after_remove, get-insert_cases}
+use Rattle.amr_engine.proofs.QuietLaws.{notified_alike}
 use Rattle.amr_engine.proofs.QuietStays.{apart}
 
 -- ---- one group
 
 -- it depends on the configuration, the group's members and its log entries
-module _ (s t : State) (group : RouteLabels) (config : t.config ≡ s.config)
-    (log : (integration : Integration) → get t.log (log_key_of s.config group integration) ≡ get s.log (log_key_of s.config group integration)) where
-  abbrev alike : State
-  alike = record t { config = s.config }
-
-  one_alike : (from until : Moment) (firing : LabelSets) (integration : Integration) → is_notified alike group from until firing integration ≡ is_notified s group from until firing integration
-  one_alike from until firing integration = λ i.
-      not (needs_update (log integration i) firing (labels_of []) integration.send_resolved from (repeat_interval_of s.config group.route))
-      && no_repeat_before until (repeat_interval_of s.config group.route) (log integration i)
-
-  all_alike : (from until : Moment) (ms : Members) → are_notified alike group from until ms ≡ are_notified s group from until ms
-  all_alike from until [] = refl
-  all_alike from until (m ∷ ms) = λ i. list_all (λ integration. one_alike from until (labels_of (m ∷ ms)) integration i) (integrations_of s.config group.route)
-
-  alike_is : alike ≡ t
-  alike_is = sym (λ i. record t { config = config i })
-
-  pub stays_notified : members t group ≡ members s group → (period : Period) → IsNotifiedIn s group period → IsNotifiedIn t group period
-  stays_notified same period notified = record {
-    own = subst (λ (c : Config). HasOwnPath c group.route) (sym config) notified.own;
-    notified = subst (λ (x : State × Members). IsAllNotified x.0 group period.from period.until x.1) (λ i. (alike_is i, sym same i))
-        (record { fire = notified.notified.fire; notified = all_alike period.from period.until (members s group) ∙ notified.notified.notified });
-  }
+pub stays_notified : (s t : State) (group : RouteLabels) → t.config ≡ s.config
+    → ((integration : Integration) → get t.log (log_key_of s.config group integration) ≡ get s.log (log_key_of s.config group integration))
+    → members t group ≡ members s group → (period : Period) → IsNotifiedIn s group period → IsNotifiedIn t group period
+stays_notified s t group config log same period notified = record {
+  own = subst (λ (c : Config). HasOwnPath c group.route) (sym config) notified.own;
+  notified = subst (IsAllNotified t group period.from period.until) (sym same)
+      (record { fire = notified.notified.fire; notified = notified_alike s t group config log period.from period.until (members s group) ∙ notified.notified.notified });
+}
 
 -- ---- a group that is removed from what is cached
 

@@ -1,17 +1,18 @@
 -- A flush leaves the alerts placed.
-use Rattle.std.specs.Prelude.{◌≡◌, ℕ, Bool, true, false, List, [], ◌∷◌, ◌≤◌, Option, Some, None, map, ◌+◌}
-use Rattle.std.specs.List.{Contains, filter, fold}
+use Rattle.std.specs.Prelude.{◌≡◌, ℕ, Bool, true, false, List, [], ◌∷◌, ◌≤◌, Option, Some, None, ◌+◌}
+use Rattle.std.specs.List.{All, Contains, filter, fold}
 use Rattle.std.specs.Option.{option_map_or}
 use Rattle.std.specs.Ordering.{eq_by_cmp, is_eq}
 use Rattle.std.proofs.Common.{refl, sym, ap, ◌∙◌, subst, inl, inr, arith}
 use Rattle.std.proofs.lemmas.Cmp.{tied_itself}
 use Rattle.std.proofs.lemmas.Bool.Decides.{nat_tests}
+use Rattle.std.proofs.lemmas.List.Elements.{All-head, All-tail, All-map}
 use Rattle.std.proofs.lemmas.Map.Views.{tells_apart}
 use Rattle.amr_labels.specs.Map.{Map, get, insert, remove, entries}
 use Rattle.amr_labels.specs.Labels.{LabelSet}
 use Rattle.amr_time.specs.Time.{Moment}
 use Rattle.amr_config.specs.Stated.Config.{Config}
-use Rattle.amr_config.specs.Routing.{chosen_routes, group_interval_of}
+use Rattle.amr_config.specs.Routing.{group_interval_of}
 use Rattle.amr_rules.specs.declared.alert.Alert.{Alert}
 use Rattle.amr_rules.specs.Alerts.{is_resolved_at}
 use Rattle.amr_rules.specs.declared.dedup.LogEntry.{LogEntry}
@@ -23,7 +24,9 @@ use Rattle.amr_engine.specs.State.State.{State, log_key_cmp, group_key, members_
 use Rattle.amr_engine.specs.Flush.{Members, firing_of, resolved_of, log_key_of, let_through, notify_receiver, record_notification, set_timer, drop_member, mark_if_empty, drop_resolved, run_pipeline, flush}
 use Rattle.amr_engine.specs.Placed.{IsTimed, IsPlaced}
 use Rattle.amr_engine.proofs.MovesKeep.{notify_receiver_holds}
-use Rattle.amr_engine.proofs.PlacedLists.{Each, IsAmong, each_kept, kept_among, all_pass, get-inserted, get-insert_apart, get-removed, get-remove_apart, get-before_remove, get-remove_none, get-each, among_entries}
+use Rattle.amr_engine.proofs.Listed.{none_listed, first_or_rest, listed_map, listed_filter}
+use Rattle.amr_engine.proofs.PlacedLists.{each_kept, all_pass, get-inserted, get-removed, get-remove_apart, get-before_remove, get-remove_none, get-each, among_entries}
+use Rattle.amr_engine.proofs.QuietStays.{other_timer}
 use Rattle.amr_engine.proofs.PlacedPosts.{key_or_apart, timed_as, placed_as}
 
 -- what is resolved stays resolved
@@ -42,16 +45,12 @@ placed_later at later s order placed = record {
 
 module _ (group : RouteLabels) (change : GroupTimer → GroupTimer) (s : State) where
   -- another group's timer
-  set_timer_apart : (other : RouteLabels) → eq_by_cmp route_labels_cmp other group ≡ false → IsTimed s other → IsTimed (set_timer group change s) other
+  set_timer_apart : (other : RouteLabels) → (other ≡ group → ⊥) → IsTimed s other → IsTimed (set_timer group change s) other
   set_timer_apart other apart timed = record {
     timer = timed.timer;
-    known = by (get s.timers group);
+    known = other_timer other group apart change s ∙ timed.known;
     not_empty = timed.not_empty;
   }
-    where
-      by : (o : Option GroupTimer) → get (option_map_or (λ timer. insert s.timers group (change timer)) o s.timers) other ≡ Some timed.timer
-      by None = timed.known
-      by (Some timer) = get-insert_apart route_labels_cmp_total route_labels_cmp-IsAntisymmetric s.timers group (change timer) other apart ∙ timed.known
 
   set_timer_same : ((timer : GroupTimer) → timer.empty_since ≡ None → (change timer).empty_since ≡ None) → IsTimed s group → IsTimed (set_timer group change s) group
   set_timer_same keeps timed = record {
@@ -64,7 +63,7 @@ module _ (group : RouteLabels) (change : GroupTimer → GroupTimer) (s : State) 
   set_timer_keeps : ((timer : GroupTimer) → timer.empty_since ≡ None → (change timer).empty_since ≡ None) → (other : RouteLabels) → IsTimed s other → IsTimed (set_timer group change s) other
   set_timer_keeps keeps other timed = elim (key_or_apart other group) [
     | inl same ↦ subst (IsTimed (set_timer group change s)) (sym same) (set_timer_same keeps (subst (IsTimed s) same timed))
-    | inr apart ↦ set_timer_apart other apart.1 timed
+    | inr apart ↦ set_timer_apart other apart.0 timed
   ]
 
   timer_reset : (at : Moment) → ((timer : GroupTimer) → timer.empty_since ≡ None → (change timer).empty_since ≡ None) → IsPlaced at s → IsPlaced at (set_timer group change s)
@@ -105,26 +104,15 @@ module _ (config : Config) (group : RouteLabels) (placements : Map route_labels_
       let route : placement.0.route ≡ group.route = ap (λ (x : RouteLabels). x.route) (in_group placement e) in
       ap (λ r. get placements (on_route r placement.0.labels)) (sym route) ∙ is
 
-  each_had_of : (es : List (RouteLabels × Alert)) → Each (λ (e : RouteLabels × Alert). IsHad (e.0.labels, e.1)) es → Each IsHad (map (λ placement. (placement.0.labels, placement.1)) es)
-  each_had_of [] h = tt
-  each_had_of (e ∷ es) h = (h.0, each_had_of es h.1)
-
-  pub each_had : Each IsHad (members_among config placements group)
-  each_had = each_had_of (filter is_in_group (entries placements))
+  pub each_had : All IsHad (members_among config placements group)
+  each_had = All-map IsHad (λ (placement : RouteLabels × Alert). (placement.0.labels, placement.1)) (filter is_in_group (entries placements))
       (each_kept is_in_group (λ (e : RouteLabels × Alert). get placements e.0 ≡ Some e.1) (λ (e : RouteLabels × Alert). IsHad (e.0.labels, e.1)) had
       (entries placements) (get-each route_labels_cmp_total route_labels_cmp-IsAntisymmetric placements))
 
-  among_of : (q : RouteLabels) (copy : Alert) (es : List (RouteLabels × Alert)) → IsAmong {X = RouteLabels × Alert} (q, copy) es → IsAmong {X = LabelSet × Alert} (q.labels, copy) (map (λ placement. (placement.0.labels, placement.1)) es)
-  among_of q copy [] h = h
-  among_of q copy (e ∷ es) h = elim h [
-    | inl same ↦ inl (ap (λ (x : RouteLabels × Alert). (x.0.labels, x.1)) same)
-    | inr later ↦ inr (among_of q copy es later)
-  ]
-
-  pub among_members : (q : RouteLabels) (copy : Alert) → get placements q ≡ Some copy → group_key config q ≡ group → IsAmong {X = LabelSet × Alert} (q.labels, copy) (members_among config placements group)
+  pub among_members : (q : RouteLabels) (copy : Alert) → get placements q ≡ Some copy → group_key config q ≡ group → Contains (members_among config placements group) (q.labels, copy)
   among_members q copy is of =
-      among_of q copy (filter is_in_group (entries placements))
-      (kept_among is_in_group (q, copy) (entries placements) (ap (λ g. eq_by_cmp route_labels_cmp g group) of ∙ ap is_eq (tied_itself route_labels_cmp_total group))
+      listed_map (λ (placement : RouteLabels × Alert). (placement.0.labels, placement.1)) (filter is_in_group (entries placements)) (q, copy)
+      (listed_filter is_in_group (entries placements) (q, copy) (ap (λ g. eq_by_cmp route_labels_cmp g group) of ∙ ap is_eq (tied_itself route_labels_cmp_total group))
       (among_entries route_labels_cmp_total route_labels_cmp-IsAntisymmetric placements q copy is))
 
 module _ (group : RouteLabels) where
@@ -134,12 +122,15 @@ module _ (group : RouteLabels) where
   dropped_before (m ∷ ms) s q copy e =
       get-before_remove route_labels_cmp_total route_labels_cmp-IsAntisymmetric s.placements (on_route group.route m.0) q copy (dropped_before ms (drop_member group s m) q copy e)
 
+  abbrev IsApart : RouteLabels → LabelSet × Alert → Type 0
+  IsApart q m = q ≡ on_route group.route m.0 → ⊥
+
   -- what isn't dropped stays
-  not_dropped : (ms : Members) (s : State) (q : RouteLabels) (copy : Alert) → Each (λ (m : LabelSet × Alert). q ≡ on_route group.route m.0 → ⊥) ms → get s.placements q ≡ Some copy
+  not_dropped : (ms : Members) (s : State) (q : RouteLabels) (copy : Alert) → All (IsApart q) ms → get s.placements q ≡ Some copy
       → get (fold (drop_member group) s ms).placements q ≡ Some copy
   not_dropped [] s q copy differ e = e
-  not_dropped (m ∷ ms) s q copy differ e = not_dropped ms (drop_member group s m) q copy differ.1 (elim (key_or_apart q (on_route group.route m.0)) [
-    | inl same ↦ absurd (differ.0 same)
+  not_dropped (m ∷ ms) s q copy differ e = not_dropped ms (drop_member group s m) q copy (All-tail (IsApart q) m ms differ) (elim (key_or_apart q (on_route group.route m.0)) [
+    | inl same ↦ absurd (All-head (IsApart q) m ms differ same)
     | inr apart ↦ get-remove_apart route_labels_cmp_total route_labels_cmp-IsAntisymmetric s.placements (on_route group.route m.0) q apart.1 ∙ e
   ])
 
@@ -147,11 +138,11 @@ module _ (group : RouteLabels) where
   still_none [] s q e = e
   still_none (m ∷ ms) s q e = still_none ms (drop_member group s m) q (get-remove_none route_labels_cmp_total route_labels_cmp-IsAntisymmetric s.placements (on_route group.route m.0) q e)
 
-  all_dropped : (ms : Members) (s : State) (m : LabelSet × Alert) → IsAmong m ms → get (fold (drop_member group) s ms).placements (on_route group.route m.0) ≡ None
-  all_dropped [] s m h = absurd h
-  all_dropped (x ∷ xs) s m h = elim h [
+  all_dropped : (ms : Members) (s : State) (m : LabelSet × Alert) → Contains ms m → get (fold (drop_member group) s ms).placements (on_route group.route m.0) ≡ None
+  all_dropped [] s m h = absurd (none_listed m h)
+  all_dropped (x ∷ xs) s m h = elim (first_or_rest x m xs h) [
     | inl same ↦ still_none xs (drop_member group s x) (on_route group.route m.0)
-        (subst (λ (y : LabelSet × Alert). get (remove s.placements (on_route group.route x.0)) (on_route group.route y.0) ≡ None) (sym same)
+        (subst (λ (y : LabelSet × Alert). get (remove s.placements (on_route group.route x.0)) (on_route group.route y.0) ≡ None) same
         (get-removed route_labels_cmp_total route_labels_cmp-IsAntisymmetric s.placements (on_route group.route x.0)))
     | inr later ↦ all_dropped xs (drop_member group s x) m later
   ]
@@ -165,66 +156,60 @@ module _ (at now : Moment) (group : RouteLabels) (s : State) (order : now ≤ at
   abbrev ms : Members
   ms = members_among s.config s.placements group
 
-  abbrev dropped : State
-  dropped = fold (drop_member group) s (resolved_of now ms)
+  abbrev left : Map route_labels_cmp Alert
+  left = (fold (drop_member group) s (resolved_of now ms)).placements
 
-  dropped_same : dropped ≡ record s { placements = dropped.placements }
-  dropped_same = dropped_is group (resolved_of now ms) s
+  abbrev dropped : State
+  dropped = record s { placements = left }
+
+  before : (member : RouteLabels) (copy : Alert) → get left member ≡ Some copy → get s.placements member ≡ Some copy
+  before = dropped_before group (resolved_of now ms) s
 
   -- an alert that isn't resolved is none of the members that leave
   stays : (labels : LabelSet) (alert : Alert) (route : ℕ) → is_resolved_at at alert ≡ false → get s.placements (on_route route labels) ≡ Some alert
-      → Each (λ (m : LabelSet × Alert). on_route route labels ≡ on_route group.route m.0 → ⊥) (resolved_of now ms)
+      → All (IsApart group (on_route route labels)) (resolved_of now ms)
   stays labels alert route fires is = each_kept (λ member. is_resolved_at now member.1) (IsHad s.config group s.placements)
-      (λ (m : LabelSet × Alert). on_route route labels ≡ on_route group.route m.0 → ⊥)
+      (IsApart group (on_route route labels))
       (λ m over has same.
       let value : ◌≡◌ {A = Option Alert} (Some m.1) (Some alert) = sym has ∙ ap (get s.placements) (sym same) ∙ is in
       let values : m.1 ≡ alert = cc in
       let no : true ≡ false = sym over ∙ ap (is_resolved_at now) values ∙ still_resolved now at alert order fires in absurd (cc))
       ms (each_had s.config group s.placements)
 
-  dropped_copied : (labels : LabelSet) (alert : Alert) → get dropped.alerts labels ≡ Some alert → is_resolved_at at alert ≡ false → (route : ℕ) → Contains (chosen_routes dropped.config labels) route
-      → get dropped.placements (on_route route labels) ≡ Some alert
-  dropped_copied labels alert is fires route takes =
-      let before : get s.placements (on_route route labels) ≡ Some alert =
-      placed.copied labels alert (ap (λ m. get m labels) (sym (ap (λ (x : State). x.alerts) dropped_same)) ∙ is) fires route
-      (subst (λ (c : Config). Contains (chosen_routes c labels) route) (ap (λ (x : State). x.config) dropped_same) takes) in
-      not_dropped group (resolved_of now ms) s (on_route route labels) alert (stays labels alert route fires before) before
-
-  dropped_chosen : (member : RouteLabels) (copy : Alert) → get dropped.placements member ≡ Some copy → Contains (chosen_routes dropped.config member.labels) member.route
-  dropped_chosen member copy e =
-      subst (λ (c : Config). Contains (chosen_routes c member.labels) member.route) (sym (ap (λ (x : State). x.config) dropped_same))
-      (placed.chosen_only member copy (dropped_before group (resolved_of now ms) s member copy e))
-
-  dropped_timed : (member : RouteLabels) (copy : Alert) → get dropped.placements member ≡ Some copy → IsTimed dropped (group_key dropped.config member)
-  dropped_timed member copy e =
-      subst (λ (c : Config). IsTimed dropped (group_key c member)) (sym (ap (λ (x : State). x.config) dropped_same))
-      (timed_as s dropped (group_key s.config member) (ap (λ (x : State). x.timers) dropped_same) (placed.timed member copy (dropped_before group (resolved_of now ms) s member copy e)))
+  dropped_placed : IsPlaced at dropped
+  dropped_placed = record {
+    copied = λ labels alert is fires route takes.
+        let was = placed.copied labels alert is fires route takes in
+        not_dropped group (resolved_of now ms) s (on_route route labels) alert (stays labels alert route fires was) was;
+    chosen_only = λ member copy e. placed.chosen_only member copy (before member copy e);
+    timed = λ member copy e. timed_as s dropped (group_key s.config member) refl (placed.timed member copy (before member copy e));
+  }
 
   -- where all members of the group are resolved, none is left
-  none_left : firing_of now ms ≡ [] → (member : RouteLabels) (copy : Alert) → get dropped.placements member ≡ Some copy → group_key dropped.config member ≡ group → ⊥
-  none_left none member copy e of =
-      let owner : group_key s.config member ≡ group = ap (λ c. group_key c member) (sym (ap (λ (x : State). x.config) dropped_same)) ∙ of in
+  none_left : firing_of now ms ≡ [] → (member : RouteLabels) (copy : Alert) → get left member ≡ Some copy → group_key s.config member ≡ group → ⊥
+  none_left none member copy e owner =
       let route : group.route ≡ member.route = ap (λ (x : RouteLabels). x.route) (sym owner) in
-      let among : IsAmong {X = LabelSet × Alert} (member.labels, copy) ms = among_members s.config group s.placements member copy (dropped_before group (resolved_of now ms) s member copy e) owner in
+      let among = among_members s.config group s.placements member copy (before member copy e) owner in
       let over : is_resolved_at now copy ≡ true = all_pass (λ m. is_resolved_at now m.1) (member.labels, copy) ms none among in
-      let gone : get dropped.placements (on_route group.route member.labels) ≡ None =
-      all_dropped group (resolved_of now ms) s (member.labels, copy) (kept_among (λ m. is_resolved_at now m.1) (member.labels, copy) ms over among) in
-      let no : ◌≡◌ {A = Option Alert} None (Some copy) = sym gone ∙ ap (λ r. get dropped.placements (on_route r member.labels)) route ∙ e in absurd (cc)
+      let gone : get left (on_route group.route member.labels) ≡ None =
+      all_dropped group (resolved_of now ms) s (member.labels, copy) (listed_filter (λ (m : LabelSet × Alert). is_resolved_at now m.1) ms (member.labels, copy) over among) in
+      let no : ◌≡◌ {A = Option Alert} None (Some copy) = sym gone ∙ ap (λ r. get left (on_route r member.labels)) route ∙ e in absurd (cc)
 
   marked : (firing : Members) → firing_of now ms ≡ firing → IsPlaced at (mark_if_empty now group firing dropped)
-  marked (m ∷ rest) is = record { copied = dropped_copied; chosen_only = dropped_chosen; timed = dropped_timed }
+  marked (m ∷ rest) is = dropped_placed
   marked [] is = record {
-    copied = dropped_copied;
-    chosen_only = dropped_chosen;
-    timed = λ member copy e. elim (key_or_apart (group_key dropped.config member) group) [
+    copied = dropped_placed.copied;
+    chosen_only = dropped_placed.chosen_only;
+    timed = λ member copy e. elim (key_or_apart (group_key s.config member) group) [
       | inl same ↦ absurd (none_left is member copy e same)
-      | inr apart ↦ set_timer_apart group (λ timer. record timer { empty_since = Some now }) dropped (group_key dropped.config member) apart.1 (dropped_timed member copy e)
+      | inr apart ↦ set_timer_apart group (λ timer. record timer { empty_since = Some now }) dropped (group_key s.config member) apart.0 (dropped_placed.timed member copy e)
     ];
   }
 
   resolved_dropped : IsPlaced at (drop_resolved now group ms s)
   unfolding drop_resolved
-  resolved_dropped = marked (firing_of now ms) refl
+  resolved_dropped =
+      subst (λ (t : State). IsPlaced at (mark_if_empty now group (firing_of now ms) t)) (sym (dropped_is group (resolved_of now ms) s)) (marked (firing_of now ms) refl)
 
 module _ (at now : Moment) (group : RouteLabels) (s : State) (order : now ≤ at) where
   noted_placed : (t : State) → Noted s t → IsPlaced at s → IsPlaced at t

@@ -1,6 +1,6 @@
 -- Finite maps at a key, at other keys and by their entries, and lists item by item.
-use Rattle.std.specs.Prelude.{◌≡◌, Bool, true, false, not, ◌⊎◌, T, List, [], ◌∷◌, Option, Some, None, cond}
-use Rattle.std.specs.List.{Contains, filter}
+use Rattle.std.specs.Prelude.{◌≡◌, Bool, true, false, not, ◌⊎◌, T, List, [], ◌∷◌, Some, None, cond}
+use Rattle.std.specs.List.{All, Contains, filter}
 use Rattle.std.specs.declared.cmp.Ordering.{Ordering}
 use Rattle.std.specs.declared.cmp.Ordering.TheVariants.{Less}
 use Rattle.std.specs.Ordering.{eq_by_cmp, is_eq}
@@ -10,65 +10,24 @@ use Rattle.std.specs.FinMap.Entries.{below_all}
 use Rattle.std.proofs.Common.{refl, sym, ap, ◌∙◌, inl, inr, subst}
 use Rattle.std.proofs.lemmas.Cmp.{tied_itself, eq_by_cmp_equiv}
 use Rattle.std.proofs.lemmas.Map.Views.{tells_apart}
+use Rattle.std.proofs.lemmas.List.Elements.{All-nil, All-cons, All-head, All-tail, All-weaker, All-contains, All-filter, filter_passes}
 use Rattle.std.proofs.lemmas.Option.{same_Some}
 use Rattle.amr_labels.proofs.Sorted.{first, second, less}
 use Rattle.amr_labels.specs.Map.{Map, get, insert, remove, entries, get-insert, get-remove, get-entries, entries-sorted}
-use Rattle.amr_engine.proofs.Listed.{listed_first, listed_later}
+use Rattle.amr_engine.proofs.Listed.{none_listed, listed_first, listed_later, listed_filter}
 
 -- ---- lists
 
--- each item has the property
-abbrev pub Each : {X : Type 0} → (X → Type 0) → List X → Type 0
-Each P [] = Unit {0}
-Each P (x ∷ xs) = P x × Each P xs
+module _ {X : Type 0} (p : X → Bool) where
+  pub each_kept : (P Q : X → Type 0) → ((x : X) → p x ≡ true → P x → Q x) → (xs : List X) → All P xs → All Q (filter p xs)
+  each_kept P Q f xs h = λ k d less. f _ (filter_passes p xs k d less) (All-filter p P xs h k d less)
 
--- the item is in the list
-abbrev pub IsAmong : {X : Type 0} → X → List X → Type 0
-IsAmong x [] = ⊥
-IsAmong x (y ∷ ys) = (x ≡ y) ⊎ IsAmong x ys
-
-module _ {X : Type 0} where
-  pub each_weaker : (P Q : X → Type 0) → ((x : X) → P x → Q x) → (xs : List X) → Each P xs → Each Q xs
-  each_weaker P Q f [] h = tt
-  each_weaker P Q f (x ∷ xs) h = (f x h.0, each_weaker P Q f xs h.1)
-
-  pub each_at : (P : X → Type 0) (x : X) (xs : List X) → Each P xs → IsAmong x xs → P x
-  each_at P x [] h among = absurd among
-  each_at P x (y ∷ ys) h (inl is) = subst P (sym is) h.0
-  each_at P x (y ∷ ys) h (inr later) = each_at P x ys h.1 later
-
-  -- each item of a list is in it
-  pub each_contained : (all xs : List X) → ((y : X) → Contains xs y → Contains all y) → Each (Contains all) xs
-  each_contained all [] f = tt
-  each_contained all (x ∷ xs) f = (f x (listed_first x xs), each_contained all xs (λ y c. f y (listed_later x y xs c)))
-
-  module _ (p : X → Bool) where
-    pub each_kept : (P Q : X → Type 0) → ((x : X) → p x ≡ true → P x → Q x) → (xs : List X) → Each P xs → Each Q (filter p xs)
-    each_kept P Q f [] h = tt
-    each_kept P Q f (x ∷ xs) h =
-        elim (p x) as (λ b. p x ≡ b → Each Q (cond b (x ∷ filter p xs) (filter p xs))) [
-          | true ↦ λ e. (f x e h.0, each_kept P Q f xs h.1)
-          | false ↦ λ e. each_kept P Q f xs h.1
-        ] refl
-
-    pub kept_among : (x : X) (xs : List X) → p x ≡ true → IsAmong x xs → IsAmong x (filter p xs)
-    kept_among x [] passes h = absurd h
-    kept_among x (y ∷ ys) passes h =
-        elim (p y) as (λ b. p y ≡ b → IsAmong x (cond b (y ∷ filter p ys) (filter p ys))) [
-          | true ↦ λ e. elim h [ inl same ↦ inl same | inr later ↦ inr (kept_among x ys passes later) ]
-          | false ↦ λ e. elim h [ inl same ↦ absurd (let no : true ≡ false = sym passes ∙ ap p same ∙ e in cc) | inr later ↦ kept_among x ys passes later ]
-        ] refl
-
-    -- where no item fails a test, each passes it
-    pub all_pass : (x : X) (xs : List X) → filter (λ y. not (p y)) xs ≡ [] → IsAmong x xs → p x ≡ true
-    all_pass x [] none h = absurd h
-    all_pass x (y ∷ ys) none h = by (p y) refl (all_pass x ys) none h
-      where
-        by : (b : Bool) → p y ≡ b → (filter (λ z. not (p z)) ys ≡ [] → IsAmong x ys → p x ≡ true) → cond (not b) (y ∷ filter (λ z. not (p z)) ys) (filter (λ z. not (p z)) ys) ≡ []
-            → IsAmong x (y ∷ ys) → p x ≡ true
-        by true e rest none (inl same) = ap p same ∙ e
-        by true e rest none (inr later) = rest none later
-        by false e rest none h = absurd (cc)
+  -- where no item fails a test, each passes it
+  pub all_pass : (x : X) (xs : List X) → filter (λ y. not (p y)) xs ≡ [] → Contains xs x → p x ≡ true
+  all_pass x xs none among = elim (p x) as (λ b. p x ≡ b → b ≡ true) [
+    | true ↦ λ e. refl
+    | false ↦ λ e. absurd (none_listed x (subst (λ ys. Contains ys x) none (listed_filter (λ y. not (p y)) xs x (ap not e) among)))
+  ] refl
 
 -- ---- maps
 
@@ -131,35 +90,37 @@ module _ {K X : Type 0} {R : K → K → Ordering} (o : IsTotalOrder R) (exact :
       ap (λ b. cond b (Some e.1) (find R f.0 es)) ((eq_by_cmp_equiv o).symm f.0 e.0 ∙ ap is_eq before) ∙ found
 
   -- the entries of a sorted list below a key are found behind it
-  all_later : (e : K × X) (es fs : List (K × X)) → T (below_all R e.0 fs) → Each (λ (f : K × X). find R f.0 es ≡ Some f.1) fs → Each (λ (f : K × X). find R f.0 (e ∷ es) ≡ Some f.1) fs
-  all_later e es [] below found = tt
-  all_later e es (f ∷ fs) below found =
-      (found_later e f es (less (R e.0 f.0) (first _ _ below)) found.0, all_later e es fs (second _ _ below) found.1)
+  abbrev IsFound : List (K × X) → K × X → Type 0
+  IsFound es e = find R e.0 es ≡ Some e.1
 
-  all_found : (es : List (K × X)) → T (is_sorted R es) → Each (λ (e : K × X). find R e.0 es ≡ Some e.1) es
-  all_found [] sorted = tt
-  all_found (e ∷ es) sorted =
-      (found_first e es, all_later e es es (first _ _ sorted) (all_found es (second _ _ sorted)))
+  all_later : (e : K × X) (es fs : List (K × X)) → T (below_all R e.0 fs) → All (IsFound es) fs → All (IsFound (e ∷ es)) fs
+  all_later e es [] below found = All-nil (IsFound (e ∷ es))
+  all_later e es (f ∷ fs) below found =
+      All-cons (IsFound (e ∷ es)) f fs (found_later e f es (less (R e.0 f.0) (first _ _ below)) (All-head (IsFound es) f fs found))
+      (all_later e es fs (second _ _ below) (All-tail (IsFound es) f fs found))
+
+  all_found : (es : List (K × X)) → T (is_sorted R es) → All (IsFound es) es
+  all_found [] sorted = All-nil (IsFound [])
+  all_found (e ∷ es) sorted = All-cons (IsFound (e ∷ es)) e es (found_first e es) (all_later e es es (first _ _ sorted) (all_found es (second _ _ sorted)))
 
   -- a map has each of its entries
-  pub get-each : (m : Map R X) → Each (λ (e : K × X). get m e.0 ≡ Some e.1) (entries m)
-  get-each m = each_weaker (λ (e : K × X). find R e.0 (entries m) ≡ Some e.1) (λ (e : K × X). get m e.0 ≡ Some e.1) (λ e found. get-entries m e.0 ∙ found)
+  pub get-each : (m : Map R X) → All (λ (e : K × X). get m e.0 ≡ Some e.1) (entries m)
+  get-each m = All-weaker (IsFound (entries m)) (λ (e : K × X). get m e.0 ≡ Some e.1) (λ e found. get-entries m e.0 ∙ found)
       (entries m) (all_found (entries m) (entries-sorted m))
 
-  pub get-among : (m : Map R X) (q : K) (v : X) → IsAmong (q, v) (entries m) → get m q ≡ Some v
-  get-among m q v among = each_at (λ (e : K × X). get m e.0 ≡ Some e.1) (q, v) (entries m) (get-each m) among
+  pub get-among : (m : Map R X) (q : K) (v : X) → Contains (entries m) (q, v) → get m q ≡ Some v
+  get-among m q v among = All-contains (λ (e : K × X). get m e.0 ≡ Some e.1) (entries m) (q, v) (get-each m) among
 
-  among_found : (q : K) (v : X) (es : List (K × X)) → find R q es ≡ Some v → IsAmong (q, v) es
+  among_found : (q : K) (v : X) (es : List (K × X)) → find R q es ≡ Some v → Contains es (q, v)
   among_found q v [] e = absurd (cc)
   among_found q v (x ∷ xs) e = by (same_or_apart o exact q x.0) (among_found q v xs)
     where
-      by : (q ≡ x.0) ⊎ ((q ≡ x.0 → ⊥) × (eq_by_cmp R q x.0 ≡ false)) → (find R q xs ≡ Some v → IsAmong (q, v) xs) → IsAmong (q, v) (x ∷ xs)
+      by : (q ≡ x.0) ⊎ ((q ≡ x.0 → ⊥) × (eq_by_cmp R q x.0 ≡ false)) → (find R q xs ≡ Some v → Contains xs (q, v)) → Contains (x ∷ xs) (q, v)
       by (inl same) rest =
-          let value : ◌≡◌ {A = Option X} (Some v) (Some x.1) = sym e ∙ ap (λ (k : K). find R k (x ∷ xs)) same ∙ found_first x xs in
-          let values : v ≡ x.1 = cc in
-          inl (λ i. (same i, values i))
-      by (inr apart) rest = inr (rest (sym (ap (λ b. cond b (Some x.1) (find R q xs)) apart.1) ∙ e))
+          let value : x.1 ≡ v = same_Some x.1 v (sym (found_first x xs) ∙ ap (λ (k : K). find R k (x ∷ xs)) (sym same) ∙ e) in
+          subst (Contains (x ∷ xs)) (λ i. (sym same i, value i)) (listed_first x xs)
+      by (inr apart) rest = listed_later x (q, v) xs (rest (sym (ap (λ b. cond b (Some x.1) (find R q xs)) apart.1) ∙ e))
 
   -- what a map has is one of its entries
-  pub among_entries : (m : Map R X) (q : K) (v : X) → get m q ≡ Some v → IsAmong (q, v) (entries m)
+  pub among_entries : (m : Map R X) (q : K) (v : X) → get m q ≡ Some v → Contains (entries m) (q, v)
   among_entries m q v e = among_found q v (entries m) (sym (get-entries m q) ∙ e)

@@ -1,8 +1,9 @@
 -- Posts and reloads leave the alerts placed.
 use Rattle.std.specs.Prelude.{◌≡◌, ℕ, false, List, [], ◌∷◌, ◌⊎◌, Option, Some, None}
-use Rattle.std.specs.List.{Contains, fold}
+use Rattle.std.specs.List.{All, Contains, fold}
 use Rattle.std.specs.Ordering.{eq_by_cmp}
 use Rattle.std.proofs.Common.{refl, sym, ap, ◌∙◌, subst, inl, inr}
+use Rattle.std.proofs.lemmas.List.Elements.{All-head, All-tail, All-weaker, All-contains_itself}
 use Rattle.amr_labels.specs.Map.{get, insert, entries, empty, get-empty}
 use Rattle.amr_labels.specs.Labels.{LabelSet, label_set_cmp, label_set_cmp_total, label_set_cmp-IsAntisymmetric}
 use Rattle.amr_time.specs.Time.{Moment, Span}
@@ -17,7 +18,7 @@ use Rattle.amr_engine.specs.State.State.{State, group_key, timer_with, insert_in
 use Rattle.amr_engine.specs.Events.{put, with_config}
 use Rattle.amr_engine.specs.Placed.{IsTimed, IsPlaced}
 use Rattle.amr_engine.proofs.Listed.{none_listed, first_or_rest}
-use Rattle.amr_engine.proofs.PlacedLists.{Each, IsAmong, among_entries, each_weaker, each_contained, same_or_apart, get-inserted, get-insert_apart, get-each}
+use Rattle.amr_engine.proofs.PlacedLists.{among_entries, same_or_apart, get-inserted, get-insert_apart, get-each}
 
 -- two keys are the same, or they differ and compare as different
 pub key_or_apart : (q k : RouteLabels) → (q ≡ k) ⊎ ((q ≡ k → ⊥) × (eq_by_cmp route_labels_cmp q k ≡ false))
@@ -78,7 +79,8 @@ module _ (labels : LabelSet) (alert : Alert) (s : State) (route : ℕ) where
   placed_here : get (insert_into_group labels alert s route).placements (on_route route labels) ≡ Some alert
   placed_here = get-inserted route_labels_cmp_total route_labels_cmp-IsAntisymmetric s.placements (on_route route labels) alert
 
-  placed_elsewhere : (q : RouteLabels) → eq_by_cmp route_labels_cmp q (on_route route labels) ≡ false → get (insert_into_group labels alert s route).placements q ≡ get s.placements q
+  -- the members with other keys stay as they are
+  pub placed_elsewhere : (q : RouteLabels) → eq_by_cmp route_labels_cmp q (on_route route labels) ≡ false → get (insert_into_group labels alert s route).placements q ≡ get s.placements q
   placed_elsewhere q apart = get-insert_apart route_labels_cmp_total route_labels_cmp-IsAntisymmetric s.placements (on_route route labels) alert q apart
 
   inserted_one_in_groups : Contains (chosen_routes s.config labels) route → AreInGroups s → AreInGroups (insert_into_group labels alert s route)
@@ -110,9 +112,11 @@ module _ (labels : LabelSet) (alert : Alert) (s : State) (route : ℕ) where
 -- ---- an alert on all its routes
 
 module _ (labels : LabelSet) (alert : Alert) where
-  on_each_in_groups : (rs : List ℕ) (s : State) → Each (Contains (chosen_routes s.config labels)) rs → AreInGroups s → AreInGroups (fold (insert_into_group labels alert) s rs)
+  on_each_in_groups : (rs : List ℕ) (s : State) → All (Contains (chosen_routes s.config labels)) rs → AreInGroups s → AreInGroups (fold (insert_into_group labels alert) s rs)
   on_each_in_groups [] s take before = before
-  on_each_in_groups (r ∷ rs) s take before = on_each_in_groups rs (insert_into_group labels alert s r) take.1 (inserted_one_in_groups labels alert s r take.0 before)
+  on_each_in_groups (r ∷ rs) s take before =
+      on_each_in_groups rs (insert_into_group labels alert s r) (All-tail (Contains (chosen_routes s.config labels)) r rs take)
+      (inserted_one_in_groups labels alert s r (All-head (Contains (chosen_routes s.config labels)) r rs take) before)
 
   on_each_still : (rs : List ℕ) (s : State) (n : ℕ) → get s.placements (on_route n labels) ≡ Some alert → get (fold (insert_into_group labels alert) s rs).placements (on_route n labels) ≡ Some alert
   on_each_still [] s n e = e
@@ -138,7 +142,7 @@ module _ (labels : LabelSet) (alert : Alert) where
 module _ (s : State) (labels : LabelSet) (alert : Alert) where
   inserted_in_groups : AreInGroups s → AreInGroups (insert_into_groups s (labels, alert))
   unfolding insert_into_groups
-  inserted_in_groups = on_each_in_groups labels alert (chosen_routes s.config labels) s (each_contained (chosen_routes s.config labels) (chosen_routes s.config labels) (λ y c. c))
+  inserted_in_groups = on_each_in_groups labels alert (chosen_routes s.config labels) s (All-contains_itself (chosen_routes s.config labels))
 
   inserted_still : (n : ℕ) → get s.placements (on_route n labels) ≡ Some alert → get (insert_into_groups s (labels, alert)).placements (on_route n labels) ≡ Some alert
   unfolding insert_into_groups
@@ -211,9 +215,6 @@ post_moment (alert ∷ alerts) s = post_moment alerts (put s alert) ∙ put_mome
 
 -- ---- a reload
 
-pair_of : (k l : LabelSet) (a b : Alert) → k ≡ l → a ≡ b → ◌≡◌ {A = LabelSet × Alert} (k, a) (l, b)
-pair_of k l a b p q = λ i. (p i, q i)
-
 fold_in_groups : (es : List (LabelSet × Alert)) (s : State) → AreInGroups s → AreInGroups (fold insert_into_groups s es)
 fold_in_groups [] s before = before
 fold_in_groups (e ∷ es) s before = fold_in_groups es (insert_into_groups s e) (inserted_in_groups s e.0 e.1 before)
@@ -231,19 +232,20 @@ module _ (labels : LabelSet) (alert : Alert) where
 
   placed_again : (s : State) (e : LabelSet × Alert) (n : ℕ) → Agrees e → get s.placements (on_route n labels) ≡ Some alert → get (insert_into_groups s e).placements (on_route n labels) ≡ Some alert
   placed_again s e n agrees is = elim (labels_or_apart labels e.0) [
-    | inl same ↦ subst (λ (x : LabelSet × Alert). get (insert_into_groups s x).placements (on_route n labels) ≡ Some alert) (pair_of labels e.0 alert e.1 same (sym (agrees (sym same)))) (inserted_still s labels alert n is)
+    | inl same ↦ subst (λ (x : LabelSet × Alert). get (insert_into_groups s x).placements (on_route n labels) ≡ Some alert) (λ i. (same i, sym (agrees (sym same)) i)) (inserted_still s labels alert n is)
     | inr apart ↦ inserted_others s e.0 e.1 (on_route n labels) apart.0 ∙ is
   ]
 
-  fold_again : (es : List (LabelSet × Alert)) (s : State) (n : ℕ) → Each Agrees es → get s.placements (on_route n labels) ≡ Some alert → get (fold insert_into_groups s es).placements (on_route n labels) ≡ Some alert
+  fold_again : (es : List (LabelSet × Alert)) (s : State) (n : ℕ) → All Agrees es → get s.placements (on_route n labels) ≡ Some alert → get (fold insert_into_groups s es).placements (on_route n labels) ≡ Some alert
   fold_again [] s n agree is = is
-  fold_again (e ∷ es) s n agree is = fold_again es (insert_into_groups s e) n agree.1 (placed_again s e n agree.0 is)
+  fold_again (e ∷ es) s n agree is = fold_again es (insert_into_groups s e) n (All-tail Agrees e es agree) (placed_again s e n (All-head Agrees e es agree) is)
 
-  fold_placed : (es : List (LabelSet × Alert)) (s : State) (n : ℕ) → Each Agrees es → IsAmong (labels, alert) es → Contains (chosen_routes s.config labels) n → get (fold insert_into_groups s es).placements (on_route n labels) ≡ Some alert
-  fold_placed [] s n agree among takes = absurd among
-  fold_placed (e ∷ es) s n agree among takes = elim among [
-    | inl same ↦ fold_again es (insert_into_groups s e) n agree.1 (subst (λ (x : LabelSet × Alert). get (insert_into_groups s x).placements (on_route n labels) ≡ Some alert) same (inserted_placed s labels alert n takes))
-    | inr later ↦ fold_placed es (insert_into_groups s e) n agree.1 later (subst (λ (c : Config). Contains (chosen_routes c labels) n) (sym (ap (λ (x : State). x.config) (inserted_is s e.0 e.1))) takes)
+  fold_placed : (es : List (LabelSet × Alert)) (s : State) (n : ℕ) → All Agrees es → Contains es (labels, alert) → Contains (chosen_routes s.config labels) n → get (fold insert_into_groups s es).placements (on_route n labels) ≡ Some alert
+  fold_placed [] s n agree among takes = absurd (none_listed (labels, alert) among)
+  fold_placed (e ∷ es) s n agree among takes = elim (first_or_rest e (labels, alert) es among) [
+    | inl same ↦ fold_again es (insert_into_groups s e) n (All-tail Agrees e es agree)
+        (subst (λ (x : LabelSet × Alert). get (insert_into_groups s x).placements (on_route n labels) ≡ Some alert) (sym same) (inserted_placed s labels alert n takes))
+    | inr later ↦ fold_placed es (insert_into_groups s e) n (All-tail Agrees e es agree) later (subst (λ (c : Config). Contains (chosen_routes c labels) n) (sym (ap (λ (x : State). x.config) (inserted_is s e.0 e.1))) takes)
   ]
 
 module _ (at : Moment) (s : State) (config : Config) where
@@ -256,8 +258,8 @@ module _ (at : Moment) (s : State) (config : Config) where
     timed = λ member copy e. let no : ◌≡◌ {A = Option Alert} None (Some copy) = sym (get-empty route_labels_cmp member) ∙ e in absurd (cc);
   }
 
-  entries_agree : (labels : LabelSet) (alert : Alert) → get s.alerts labels ≡ Some alert → Each (Agrees labels alert) (entries s.alerts)
-  entries_agree labels alert is = each_weaker (λ (e : LabelSet × Alert). get s.alerts e.0 ≡ Some e.1) (Agrees labels alert)
+  entries_agree : (labels : LabelSet) (alert : Alert) → get s.alerts labels ≡ Some alert → All (Agrees labels alert) (entries s.alerts)
+  entries_agree labels alert is = All-weaker (λ (e : LabelSet × Alert). get s.alerts e.0 ≡ Some e.1) (Agrees labels alert)
       (λ e found same. let value : ◌≡◌ {A = Option Alert} (Some e.1) (Some alert) = sym found ∙ ap (get s.alerts) same ∙ is in let values : e.1 ≡ alert = cc in values)
       (entries s.alerts) (get-each label_set_cmp_total label_set_cmp-IsAntisymmetric s.alerts)
 

@@ -28,7 +28,8 @@ use Rattle.amr_engine.specs.declared.state.notification.GroupTimer.{GroupTimer}
 use Rattle.amr_engine.specs.declared.state.notification.Notification.{Notification}
 use Rattle.amr_labels.specs.Set.{is_subset, is_empty}
 use Rattle.amr_engine.specs.declared.verdict.Finding.TheVariants.{Inhibited, OutsideActive, TimeMuted, Silenced}
-use Rattle.amr_engine.proofs.FewerNotified.{fewer_notified}
+use Rattle.amr_engine.proofs.FewerNotified.{all_filter, fewer_notified}
+use Rattle.amr_engine.proofs.Listed.{none_left}
 use Rattle.amr_engine.specs.Quiet.{is_outside, no_alert_ends, no_source_ends, no_silence_turns, IsStill, all_fire_until, is_untimed, no_repeat_before, is_notified, are_notified, with_timer_reset, IsAllNotified, IsQuietWith, IsQuiet}
 
 -- two tests find the same where they agree on each element
@@ -37,9 +38,6 @@ found_same ok p q same [] all = refl
 found_same ok p q same (x ∷ xs) all =
     let parts = and_parts (ok x) (list_all ok xs) all in
     (λ i. cond (same x parts.0 i) (Some x) (found_same ok p q same xs parts.1 i))
-
-some_named : (name : Text) (names : List Text) → (length (name ∷ names) == 0) ≡ true → ⊥
-some_named name names none = grind (arith, nat_tests)
 
 -- a dedup check that says no, without its repeated notification
 no_more : (a b c d e : Bool) → (a || b || (c && (d || e))) ≡ false → (a || b || (c && (d || false))) ≡ false
@@ -86,23 +84,15 @@ module _ (from until at : Moment) (not_before : from ≤ at) (before : at < unti
   silencer_same silences still labels =
       ap (option_map (λ stored. stored.0)) (found_same _ (λ stored. silences_labels at stored.1 labels) (λ stored. silences_labels from stored.1 labels) (silences_same labels) (entries silences) still)
 
-  active_always : (config : Config) (moment : Moment) (names : List Text) → (length names == 0) ≡ true → ((length names == 0) || list_any (is_within config moment) names) ≡ true
-  active_always config moment [] none = refl
-  active_always config moment (name ∷ names) none = absurd (some_named name names none)
-
-  muted_never : (config : Config) (moment : Moment) (names : List Text) → (length names == 0) ≡ true → list_any (is_within config moment) names ≡ false
-  muted_never config moment [] none = refl
-  muted_never config moment (name ∷ names) none = absurd (some_named name names none)
-
   active_same : (config : Config) (route : ℕ) → is_untimed config route ≡ true → is_active_at config route at ≡ is_active_at config route from
   active_same config route untimed =
-      let none = (and_parts (length (active_intervals_of config route) == 0) (length (mute_intervals_of config route) == 0) untimed).0 in
-      active_always config at (active_intervals_of config route) none ∙ sym (active_always config from (active_intervals_of config route) none)
+      let none = none_left (active_intervals_of config route) (and_parts (length (active_intervals_of config route) == 0) (length (mute_intervals_of config route) == 0) untimed).0 in
+      ap (λ (names : List Text). (length names == 0) || list_any (is_within config at) names) none ∙ sym (ap (λ (names : List Text). (length names == 0) || list_any (is_within config from) names) none)
 
   muted_same : (config : Config) (route : ℕ) → is_untimed config route ≡ true → is_muted_at config route at ≡ is_muted_at config route from
   muted_same config route untimed =
-      let none = (and_parts (length (active_intervals_of config route) == 0) (length (mute_intervals_of config route) == 0) untimed).1 in
-      muted_never config at (mute_intervals_of config route) none ∙ sym (muted_never config from (mute_intervals_of config route) none)
+      let none = none_left (mute_intervals_of config route) (and_parts (length (active_intervals_of config route) == 0) (length (mute_intervals_of config route) == 0) untimed).1 in
+      ap (list_any (is_within config at)) none ∙ sym (ap (list_any (is_within config from)) none)
 
   taken_same : (s : State) (route : ℕ) → IsStill s from until → is_untimed s.config route ≡ true
       → (labels : LabelSet) → taken_away s at route labels ≡ taken_away s from route labels
@@ -131,13 +121,7 @@ module _ (from until at : Moment) (not_before : from ≤ at) (before : at < unti
       (λ i. cond (resolved_not m.1 parts.0 i) (m ∷ resolved_none ms parts.1 i) (resolved_none ms parts.1 i))
 
   fire_kept : (p : LabelSet × Alert → Bool) (ms : Members) → all_fire_until until ms ≡ true → all_fire_until until (filter p ms) ≡ true
-  fire_kept p [] fire = refl
-  fire_kept p (m ∷ ms) fire =
-      let parts = and_parts (nat_le until m.1.ends_at) (all_fire_until until ms) fire in
-      elim (p m) as (λ b. all_fire_until until (cond b (m ∷ filter p ms) (filter p ms)) ≡ true) [
-        | true ↦ (λ i. parts.0 i && fire_kept p ms parts.1 i)
-        | false ↦ fire_kept p ms parts.1
-      ]
+  fire_kept p ms fire = all_filter (λ (m : LabelSet × Alert). nat_le until m.1.ends_at) p ms fire
 
   -- ---- who is notified
 
@@ -194,32 +178,56 @@ module _ (from until at : Moment) (not_before : from ≤ at) (before : at < unti
 
 -- ---- what keeps a group quiet
 
--- what the conditions read of a state: all but the clock, the group timers and the notifications
-kept_with : (s : State) (moment : Moment) (timers : Map route_labels_cmp GroupTimer) (notes : List Notification) (group : RouteLabels) (from until : Moment) (ms : Members)
-    → IsQuietWith s group from until ms → IsQuietWith (record s { moment = moment; timers = timers; notes = notes }) group from until ms
-unfolding taken_away
-kept_with s moment timers notes group from until [] quiet = tt
-kept_with s moment timers notes group from until (m ∷ ms) (inl quiet) = inl (record {
-  fire = quiet.fire;
-  still = record { sources = quiet.still.sources; silences = quiet.still.silences };
-  untimed = quiet.untimed;
-  notified = quiet.notified;
-})
-kept_with s moment timers notes group from until (m ∷ ms) (inr notified) = inr (record { fire = notified.fire; notified = notified.notified })
+-- states with the same configuration, alerts and silences
+module _ (s t : State) (config : t.config ≡ s.config) (alerts : t.alerts ≡ s.alerts) (silences : t.silences ≡ s.silences) where
+  pub still_alike : (from until : Moment) → IsStill s from until → IsStill t from until
+  still_alike from until still = record {
+    sources = (λ i. no_source_ends from until (config i).rules (alerts i)) ∙ still.sources;
+    silences = ap (no_silence_turns from until) silences ∙ still.silences;
+  }
+
+  pub through_alike : (at : Moment) (route : ℕ) (ms : Members) → let_through t at route ms ≡ let_through s at route ms
+  unfolding taken_away
+  through_alike at route ms = λ i. let_through (record t { config = config i; alerts = alerts i; silences = silences i }) at route ms
+
+-- states with the same configuration and log entries of the group
+module _ (s t : State) (group : RouteLabels) (config : t.config ≡ s.config)
+    (log : (integration : Integration) → get t.log (log_key_of s.config group integration) ≡ get s.log (log_key_of s.config group integration)) (from until : Moment) where
+  pub notified_alike : (ms : Members) → are_notified t group from until ms ≡ are_notified s group from until ms
+  notified_alike [] = refl
+  notified_alike (m ∷ ms) =
+      let interval : Span = repeat_interval_of s.config group.route in
+      ap (λ (c : Config). are_notified (record t { config = c }) group from until (m ∷ ms)) config
+      ∙ (λ i. list_all (λ integration. not (needs_update (log integration i) (labels_of (m ∷ ms)) (labels_of []) integration.send_resolved from interval) && no_repeat_before until interval (log integration i))
+      (integrations_of s.config group.route))
+
+  -- the group stays quiet, if what is still stays so and the same members are let through
+  pub quiet_alike : (IsStill s from until → IsStill t from until) → ((ms : Members) → let_through t from group.route ms ≡ let_through s from group.route ms)
+      → (ms : Members) → IsQuietWith s group from until ms → IsQuietWith t group from until ms
+  quiet_alike still through [] quiet = tt
+  quiet_alike still through (m ∷ ms) (inl quiet) = inl (record {
+    fire = quiet.fire;
+    still = still quiet.still;
+    untimed = ap (λ (c : Config). is_untimed c group.route) config ∙ quiet.untimed;
+    notified = notified_alike (let_through t from group.route (m ∷ ms)) ∙ ap (are_notified s group from until) (through (m ∷ ms)) ∙ quiet.notified;
+  })
+  quiet_alike still through (m ∷ ms) (inr notified) = inr (record { fire = notified.fire; notified = notified_alike (m ∷ ms) ∙ notified.notified })
 
 -- quietness depends on neither the clock nor the group timers nor the notifications
 pub stays_quiet : (s : State) (moment : Moment) (timers : Map route_labels_cmp GroupTimer) (notes : List Notification) (group : RouteLabels) (from until : Moment)
     → IsQuiet s group from until → IsQuiet (record s { moment = moment; timers = timers; notes = notes }) group from until
 unfolding IsQuiet members
-stays_quiet s moment timers notes group from until quiet = kept_with s moment timers notes group from until (members s group) quiet
+stays_quiet s moment timers notes group from until quiet =
+    let t : State = record s { moment = moment; timers = timers; notes = notes } in
+    quiet_alike s t group refl (λ _. refl) from until (still_alike s t refl refl refl from until) (through_alike s t refl refl refl from group.route) (members s group) quiet
 
 -- a flush of a quiet group sets the group timer and changes nothing else
 pub quiet_flush : (s : State) (group : RouteLabels) (from until at : Moment) → from ≤ at → at < until → IsQuiet s group from until
     → flush at group s ≡ with_timer_reset at group s
-unfolding flush IsQuiet
+unfolding flush IsQuiet members
 quiet_flush s group from until at not_before before quiet =
     pipeline_none from until at not_before before (with_timer_reset at group s) group (members s group)
-    (kept_with s s.moment (with_timer_reset at group s).timers s.notes group from until (members s group) quiet)
+    (stays_quiet s s.moment (with_timer_reset at group s).timers s.notes group from until quiet)
 
 -- a group whose members were all notified of is quiet, whatever mutes them
 pub quiet_if_notified : (s : State) (group : RouteLabels) (from until : Moment) (ms : Members) → IsAllNotified s group from until ms → IsQuietWith s group from until ms

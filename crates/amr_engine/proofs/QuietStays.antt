@@ -1,32 +1,33 @@
 -- What leaves a group quiet: the clock, group timers, notifications, and the flush of another group.
-use Rattle.std.specs.Prelude.{◌≡◌, Bool, true, false, not, ◌&&◌, List, [], ◌∷◌, Some, cond, map}
-use Rattle.std.specs.List.{list_all, filter, fold}
+use Rattle.std.specs.Prelude.{◌≡◌, Bool, true, false, not, List, [], ◌∷◌, None, Some, cond, map}
+use Rattle.std.specs.Option.{option_map_or}
+use Rattle.std.specs.List.{All, filter, fold}
 use Rattle.std.specs.declared.cmp.Ordering.{Ordering}
 use Rattle.std.specs.Ordering.{eq_by_cmp}
 use Rattle.std.specs.FinMap.{IsAntisymmetric}
 use Rattle.std.specs.FinMap.Entries.{where_key}
-use Rattle.std.proofs.Common.{refl, sym, ap, ◌∙◌, subst, inl, inr}
+use Rattle.std.proofs.Common.{refl, sym, ap, ◌∙◌, subst}
+use Rattle.std.proofs.lemmas.List.Elements.{All-head, All-tail, All-map, All-filter}
 use Rattle.std.proofs.lemmas.Map.Views.{tells_apart}
 use Rattle.amr_labels.specs.Map.{get, insert, remove, entries, get-insert, entries-retain_keys}
 use Rattle.amr_labels.specs.Labels.{LabelSet}
 use Rattle.amr_time.specs.Time.{Moment}
 use Rattle.amr_config.specs.declared.stated.receiver.Integration.{Integration}
 use Rattle.amr_config.specs.Stated.Config.{Config}
-use Rattle.amr_config.specs.Routing.{integrations_of, repeat_interval_of}
 use Rattle.amr_rules.specs.declared.alert.Alert.{Alert}
 use Rattle.amr_rules.specs.declared.dedup.LogEntry.{LogEntry}
-use Rattle.amr_rules.specs.Dedup.{LabelSets, needs_update}
 use Rattle.amr_engine.specs.declared.state.notification.LogKey.{LogKey}
 use Rattle.amr_engine.specs.declared.state.notification.GroupTimer.{GroupTimer}
 use Rattle.amr_engine.specs.declared.state.notification.Notification.{Notification}
 use Rattle.amr_rules.specs.Alerts.{is_resolved_at}
 use Rattle.amr_config.specs.declared.route_labels.RouteLabels.{RouteLabels}
-use Rattle.amr_config.specs.RouteLabels.{on_route, route_labels_cmp, route_labels_cmp-IsAntisymmetric}
+use Rattle.amr_config.specs.RouteLabels.{on_route, route_labels_cmp, route_labels_cmp_total, route_labels_cmp-IsAntisymmetric}
 use Rattle.amr_engine.specs.State.State.{State, log_key_cmp_total, log_key_cmp-IsAntisymmetric, group_key, members}
-use Rattle.amr_engine.specs.Stages.{taken_away}
-use Rattle.amr_engine.specs.Flush.{Members, firing_of, resolved_of, labels_of, log_key_of, notify_receiver, set_timer, drop_member, mark_if_empty, drop_resolved, run_pipeline, flush, let_through}
+use Rattle.amr_engine.specs.Flush.{Members, firing_of, resolved_of, log_key_of, notify_receiver, set_timer, drop_member, mark_if_empty, drop_resolved, run_pipeline, flush, let_through}
 use Rattle.amr_engine.proofs.MovesKeep.{notify_receiver_holds}
-use Rattle.amr_engine.specs.Quiet.{with_timer_reset, no_repeat_before, is_notified, are_notified, IsQuietWith, IsQuiet, LeavesOthers, IsStill, no_source_ends, no_silence_turns}
+use Rattle.amr_engine.proofs.PlacedLists.{each_kept, get-insert_apart}
+use Rattle.amr_engine.proofs.QuietLaws.{still_alike, through_alike, quiet_alike}
+use Rattle.amr_engine.specs.Quiet.{with_timer_reset, IsQuietWith, IsQuiet, LeavesOthers}
 
 -- ---- states that are the same for other groups
 
@@ -43,50 +44,14 @@ module _ (flushed : RouteLabels) where
     log = λ key other. b.log key (λ integration e. other integration (e ∙ ap (λ (c : Config). log_key_of c flushed integration) a.config)) ∙ a.log key other;
   }
 
--- the first state with the parts of the second that may differ
-abbrev mixed : State → State → State
-mixed s t = record s { moment = t.moment; placements = t.placements; timers = t.timers; log = t.log; notes = t.notes }
-
-mixed_is : (flushed : RouteLabels) (s t : State) → LeavesOthers flushed s t → mixed s t ≡ t
-mixed_is flushed s t same = sym (λ i. record t { config = same.config i; alerts = same.alerts i; silences = same.silences i })
-
-module _ (s t : State) (group : RouteLabels) (from until : Moment) (log : (integration : Integration) → get t.log (log_key_of s.config group integration) ≡ get s.log (log_key_of s.config group integration)) where
-  notified_same : (firing : LabelSets) (integration : Integration) → is_notified (mixed s t) group from until firing integration ≡ is_notified s group from until firing integration
-  notified_same firing integration = λ i.
-      not (needs_update (log integration i) firing (labels_of []) integration.send_resolved from (repeat_interval_of s.config group.route))
-      && no_repeat_before until (repeat_interval_of s.config group.route) (log integration i)
-
-  all_notified_same : (ms : Members) → are_notified (mixed s t) group from until ms ≡ are_notified s group from until ms
-  all_notified_same [] = refl
-  all_notified_same (m ∷ ms) = λ i. list_all (λ integration. notified_same (labels_of (m ∷ ms)) integration i) (integrations_of s.config group.route)
-
-  quiet_with_same : (ms : Members) → IsQuietWith s group from until ms → IsQuietWith (mixed s t) group from until ms
-  unfolding taken_away
-  quiet_with_same [] quiet = tt
-  quiet_with_same (m ∷ ms) (inl quiet) = inl (record {
-    fire = quiet.fire;
-    still = record { sources = quiet.still.sources; silences = quiet.still.silences };
-    untimed = quiet.untimed;
-    notified = all_notified_same (let_through s from group.route (m ∷ ms)) ∙ quiet.notified;
-  })
-  quiet_with_same (m ∷ ms) (inr notified) = inr (record { fire = notified.fire; notified = all_notified_same (m ∷ ms) ∙ notified.notified })
-
 -- another group that shares no log entry and is quiet in the one state is quiet in the other
 pub quiet_left : (flushed : RouteLabels) (s t : State) → LeavesOthers flushed s t → (group : RouteLabels) → (group ≡ flushed → ⊥)
     → ((integration its : Integration) → log_key_of s.config group integration ≡ log_key_of s.config flushed its → ⊥) → (from until : Moment) → IsQuiet s group from until → IsQuiet t group from until
 unfolding IsQuiet
 quiet_left flushed s t same group other keys from until quiet =
-    let log : (integration : Integration) → get t.log (log_key_of s.config group integration) ≡ get s.log (log_key_of s.config group integration) =
-    (λ integration. same.log (log_key_of s.config group integration) (keys integration)) in
-    let mix : IsQuietWith (mixed s t) group from until (members s group) = quiet_with_same s t group from until log (members s group) quiet in
-    subst (λ (x : State × Members). IsQuietWith x.0 group from until x.1)
-    (λ i. (mixed_is flushed s t same i, sym (same.members group other) i)) mix
-
-pub still_left : (flushed : RouteLabels) (s t : State) → LeavesOthers flushed s t → (from until : Moment) → IsStill s from until → IsStill t from until
-still_left flushed s t same from until still = record {
-  sources = (λ i. no_source_ends from until (same.config i).rules (same.alerts i)) ∙ still.sources;
-  silences = ap (no_silence_turns from until) same.silences ∙ still.silences;
-}
+    subst (IsQuietWith t group from until) (sym (same.members group other))
+    (quiet_alike s t group same.config (λ integration. same.log (log_key_of s.config group integration) (keys integration)) from until
+    (still_alike s t same.config same.alerts same.silences from until) (through_alike s t same.config same.alerts same.silences from group.route) (members s group) quiet)
 
 -- ---- the flush of another group
 
@@ -97,6 +62,14 @@ apart {R = R} exact a b differ =
       | true ↦ λ e. absurd (differ (tells_apart exact a b e))
       | false ↦ λ e. refl
     ] refl
+
+-- the timer of another group stays as it is
+pub other_timer : (group other : RouteLabels) → (group ≡ other → ⊥) → (change : GroupTimer → GroupTimer) (s : State) → get (set_timer other change s).timers group ≡ get s.timers group
+other_timer group other differ change s =
+    elim (get s.timers other) as (λ o. get (option_map_or (λ timer. insert s.timers other (change timer)) o s.timers) group ≡ get s.timers group) [
+      | None ↦ refl
+      | Some timer ↦ get-insert_apart route_labels_cmp_total route_labels_cmp-IsAntisymmetric s.timers other (change timer) group (apart route_labels_cmp-IsAntisymmetric group other differ)
+    ]
 
 -- removing a key leaves the entries that a test keeps, if it doesn't keep that key's
 kept_without : {K X : Type 0} (R : K → K → Ordering) (p : K × X → Bool) (test : K → Bool) → ((e : K × X) → p e ≡ true → test e.0 ≡ true) → (es : List (K × X))
@@ -117,36 +90,20 @@ abbrev BelongsTo : Config → RouteLabels → LabelSet × Alert → Type 0
 BelongsTo config group member = group_key config (on_route group.route member.0) ≡ group
 
 abbrev AllBelong : Config → RouteLabels → Members → Type 0
-AllBelong config group [] = Unit {0}
-AllBelong config group (m ∷ ms) = BelongsTo config group m × AllBelong config group ms
-
-kept_belong : (config : Config) (group : RouteLabels) (p : LabelSet × Alert → Bool) (ms : Members) → AllBelong config group ms → AllBelong config group (filter p ms)
-kept_belong config group p [] of = tt
-kept_belong config group p (m ∷ ms) of =
-    elim (p m) as (λ b. AllBelong config group (cond b (m ∷ filter p ms) (filter p ms))) [
-      | true ↦ (of.0, kept_belong config group p ms of.1)
-      | false ↦ kept_belong config group p ms of.1
-    ]
+AllBelong config group = All (BelongsTo config group)
 
 belongs : (config : Config) (group : RouteLabels) (placement : RouteLabels × Alert) → group_key config placement.0 ≡ group → BelongsTo config group (placement.0.labels, placement.1)
 belongs config group placement e =
     let route : placement.0.route ≡ group.route = ap (λ (x : RouteLabels). x.route) e in
     ap (λ r. group_key config (on_route r placement.0.labels)) (sym route) ∙ e
 
-all_belong : (config : Config) (group : RouteLabels) (placements : List (RouteLabels × Alert))
-    → AllBelong config group (map (λ placement. (placement.0.labels, placement.1)) (filter (λ placement. eq_by_cmp route_labels_cmp (group_key config placement.0) group) placements))
-all_belong config group [] = tt
-all_belong config group (placement ∷ placements) =
-    elim (eq_by_cmp route_labels_cmp (group_key config placement.0) group) as (λ b. eq_by_cmp route_labels_cmp (group_key config placement.0) group ≡ b
-    → AllBelong config group (map (λ placement. (placement.0.labels, placement.1))
-    (cond b (placement ∷ filter (λ placement. eq_by_cmp route_labels_cmp (group_key config placement.0) group) placements) (filter (λ placement. eq_by_cmp route_labels_cmp (group_key config placement.0) group) placements)))) [
-      | true ↦ λ e. (belongs config group placement (tells_apart route_labels_cmp-IsAntisymmetric (group_key config placement.0) group e), all_belong config group placements)
-      | false ↦ λ e. all_belong config group placements
-    ] refl
-
 members_belong : (s : State) (group : RouteLabels) → AllBelong s.config group (members s group)
 unfolding members
-members_belong s group = all_belong s.config group (entries s.placements)
+members_belong s group =
+    let p : RouteLabels × Alert → Bool = λ placement. eq_by_cmp route_labels_cmp (group_key s.config placement.0) group in
+    All-map (BelongsTo s.config group) (λ (placement : RouteLabels × Alert). (placement.0.labels, placement.1)) (filter p (entries s.placements))
+    (each_kept p (λ placement. Unit {0}) (λ (placement : RouteLabels × Alert). BelongsTo s.config group (placement.0.labels, placement.1))
+    (λ placement in_group _. belongs s.config group placement (tells_apart route_labels_cmp-IsAntisymmetric (group_key s.config placement.0) group in_group)) (entries s.placements) (λ _ _ _. tt))
 
 module _ (flushed : RouteLabels) where
   timer_leaves : (change : GroupTimer → GroupTimer) (s : State) → LeavesOthers flushed s (set_timer flushed change s)
@@ -193,7 +150,8 @@ module _ (flushed : RouteLabels) where
   drop_all_leaves : (s : State) (ms : Members) → AllBelong s.config flushed ms → LeavesOthers flushed s (fold (drop_member flushed) s ms)
   drop_all_leaves s [] of = leaves_all flushed s
   drop_all_leaves s (m ∷ ms) of =
-      leaves_then flushed s (drop_member flushed s m) (fold (drop_member flushed) (drop_member flushed s m) ms) (drop_member_leaves s m of.0) (drop_all_leaves (drop_member flushed s m) ms of.1)
+      leaves_then flushed s (drop_member flushed s m) (fold (drop_member flushed) (drop_member flushed s m) ms) (drop_member_leaves s m (All-head (BelongsTo s.config flushed) m ms of))
+      (drop_all_leaves (drop_member flushed s m) ms (All-tail (BelongsTo s.config flushed) m ms of))
 
   mark_leaves : (at : Moment) (ms : Members) (s : State) → LeavesOthers flushed s (mark_if_empty at flushed ms s)
   mark_leaves at [] s = timer_leaves (λ timer. record timer { empty_since = Some at }) s
@@ -203,7 +161,7 @@ module _ (flushed : RouteLabels) where
   unfolding drop_resolved
   drop_leaves at ms s of =
       leaves_then flushed s (fold (drop_member flushed) s (resolved_of at ms)) (mark_if_empty at flushed (firing_of at ms) (fold (drop_member flushed) s (resolved_of at ms)))
-      (drop_all_leaves s (resolved_of at ms) (kept_belong s.config flushed (λ member. is_resolved_at at member.1) ms of))
+      (drop_all_leaves s (resolved_of at ms) (All-filter (λ (member : LabelSet × Alert). is_resolved_at at member.1) (BelongsTo s.config flushed) ms of))
       (mark_leaves at (firing_of at ms) (fold (drop_member flushed) s (resolved_of at ms)))
 
   pipeline_leaves : (at : Moment) (ms : Members) (s : State) → AllBelong s.config flushed ms → LeavesOthers flushed s (run_pipeline at flushed ms s)
