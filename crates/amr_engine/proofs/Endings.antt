@@ -61,47 +61,16 @@ some_run at (Some r) count next e =
     let parts : ◌≡◌ {A = ℕ × State} (count, next) (length r.0, at_moment at r.1) = cc in
     record { moves = r.0; moved = r.1; ran = refl; counted = ap (λ (p : ℕ × State). p.0) parts; ends = ap (λ (p : ℕ × State). p.1) parts }
 
--- the action has a reason against it
-pub act_refused : (s : State) (at : Moment) (act : Act) (reason : Reason) → is_label act ≡ false → nat_lt at s.moment ≡ false
-    → after_act (at_moment at s) act ≡ Err reason → ComesTo s (event_at at act) s (refusal reason)
-act_refused s at act reason no_label h own =
-    is_refused s (event_at at act) reason (not_past s (event_at at act) no_label h ∙ ap (judge move_limit s (event_at at act)) own)
-
--- too many moves are due
-pub act_is_over : (s : State) (at : Moment) (act : Act) (at_once : State) → is_label act ≡ false → nat_lt at s.moment ≡ false
-    → after_act (at_moment at s) act ≡ Ok at_once → None ≡ run_moved at (advance move_limit at s) → ComesTo s (event_at at act) s (refusal 21)
-act_is_over s at act at_once no_label h own over =
-    is_refused s (event_at at act) 21
-    (not_past s (event_at at act) no_label h ∙ ap (judge move_limit s (event_at at act)) own ∙ ap (finish (event_at at act)) (none_run at (advance move_limit at s) over))
-
--- the action is done after the moves
-pub act_accepted : (s : State) (at : Moment) (act : Act) (at_once : State) (count : ℕ) (next done : State) (skipped : List ℕ) → is_label act ≡ false → nat_lt at s.moment ≡ false
-    → after_act (at_moment at s) act ≡ Ok at_once → Some (count, next) ≡ run_moved at (advance move_limit at s) → after_act next act ≡ Ok done
-    → skipped ≡ skipped_of (at_moment at s) act → ComesTo s (event_at at act) done (acceptance count (drop (length s.notes) done.notes) skipped)
-act_accepted s at act at_once count next done skipped no_label h own ran acted none =
-    let event : Event = event_at at act in
+-- what the moves leave as it is
+pub stays : (s : State) (at : Moment) (count : ℕ) (next : State) → Some (count, next) ≡ run_moved at (advance move_limit at s) → Stays s at next
+stays s at count next ran =
     let r = some_run at (advance move_limit at s) count next ran in
-    is_accepted s event r.moves done count skipped
-    (not_past s event no_label h ∙ ap (judge move_limit s event) own ∙ ap (finish event) r.ran
-    ∙ ap (λ (x : State). on_ok (λ end. (r.moves, end)) (after_act x act)) (sym r.ends) ∙ ap (on_ok (λ end. (r.moves, end))) acted) r.counted none
-
-stays_after : (s : State) (at : Moment) (run : Option (List Due × State)) (count : ℕ) (next : State) → advance move_limit at s ≡ run → Some (count, next) ≡ run_moved at run → Stays s at next
-stays_after s at run count next is ran =
-    let r = some_run at run count next ran in
-    let sound = run_within-sound (next_due at) move move_limit s r.moves r.moved (is ∙ r.ran) in
-    let kept = advances_keep at r.moves s r.moved sound.0 in
+    let kept = advances_keep at r.moves s r.moved (run_within-sound (next_due at) move move_limit s r.moves r.moved r.ran).0 in
     record {
       silences = ap (λ (x : State). x.silences) r.ends ∙ ap (λ (by : Judged). by.0) kept;
       config = ap (λ (x : State). x.config) r.ends ∙ ap (λ (by : Judged). by.1) kept;
       moment = ap (λ (x : State). x.moment) r.ends;
     }
-
--- what the moves leave as it is
-pub stays : (s : State) (at : Moment) (count : ℕ) (next : State) → Some (count, next) ≡ run_moved at (advance move_limit at s) → Stays s at next
-stays s at count next ran = stays_after s at (advance move_limit at s) count next refl ran
-
-at_first : (s : State) (at : Moment) → Stays s at (at_moment at s)
-at_first s at = record { silences = refl; config = refl; moment = refl }
 
 module _ (s : State) (event : Event) (at : Moment) (act : Act) (at_is : at ≡ event.at) (act_is : act ≡ event.act) (no_label : is_label act ≡ false) (h : nat_lt at s.moment ≡ false) where
   the_event : event_at at act ≡ event
@@ -110,20 +79,31 @@ module _ (s : State) (event : Event) (at : Moment) (act : Act) (at_is : at ≡ e
   -- the action has its own reason against it
   pub refused_by_act : (reason : code.Reason) → IsPrepared s at act (Err reason) → ComesTo s event s (refusal (reason_number reason))
   unfolding the_event
-  refused_by_act reason own = subst (λ (e : Event). ComesTo s e s (refusal (reason_number reason))) the_event (act_refused s at act (reason_number reason) no_label h own)
+  refused_by_act reason own =
+      subst (λ (e : Event). ComesTo s e s (refusal (reason_number reason))) the_event
+      (is_refused s (event_at at act) (reason_number reason) (not_past s (event_at at act) no_label h ∙ ap (judge move_limit s (event_at at act)) own))
+
+  -- it has none
+  judged : (prepared : prepare.Prepared) → DoesAsPrepared s at act prepared → do_event s (event_at at act) ≡ finish (event_at at act) (advance move_limit at s)
+  judged prepared does = not_past s (event_at at act) no_label h ∙ ap (judge move_limit s (event_at at act)) (does.does (at_moment at s) (record { silences = refl; config = refl; moment = refl }))
 
   -- too many moves are due
   pub refused_by_moves : (prepared : prepare.Prepared) → DoesAsPrepared s at act prepared → None ≡ run_moved at (advance move_limit at s) → ComesTo s event s (refusal 21)
   refused_by_moves prepared does over =
-      subst (λ (e : Event). ComesTo s e s (refusal 21)) the_event (act_is_over s at act (after_prepared prepared (at_moment at s)) no_label h (does.does (at_moment at s) (at_first s at)) over)
+      subst (λ (e : Event). ComesTo s e s (refusal 21)) the_event
+      (is_refused s (event_at at act) 21 (judged prepared does ∙ ap (finish (event_at at act)) (none_run at (advance move_limit at s) over)))
 
   -- the action is done after the moves
   pub done_after_moves : (prepared : prepare.Prepared) (count : ℕ) (next done : State) (skipped : List ℕ) → DoesAsPrepared s at act prepared → Some (count, next) ≡ run_moved at (advance move_limit at s)
       → done ≡ after_prepared prepared next → skipped ≡ skipped_by prepared next → ComesTo s event done (acceptance count (drop (length s.notes) done.notes) skipped)
   done_after_moves prepared count next done skipped does ran acted left =
+      let r = some_run at (advance move_limit at s) count next ran in
+      let kept = stays s at count next ran in
       subst (λ (e : Event). ComesTo s e done (acceptance count (drop (length s.notes) done.notes) skipped)) the_event
-      (act_accepted s at act (after_prepared prepared (at_moment at s)) count next done skipped no_label h (does.does (at_moment at s) (at_first s at)) ran
-      (does.does next (stays s at count next ran) ∙ ap (λ (x : State). Ok x) (sym acted)) (left ∙ does.skips next (stays s at count next ran)))
+      (is_accepted s (event_at at act) r.moves done count skipped
+      (judged prepared does ∙ ap (finish (event_at at act)) r.ran ∙ ap (λ (x : State). on_ok (λ end. (r.moves, end)) (after_act x act)) (sym r.ends)
+      ∙ ap (on_ok (λ end. (r.moves, end))) (does.does next kept ∙ ap (λ (x : State). Ok x) (sym acted)))
+      r.counted (left ∙ does.skips next kept))
 
 -- an event before the clock
 pub past_refused : (s : State) (event : Event) → is_label event.act ≡ false → nat_lt event.at s.moment ≡ true → ComesTo s event s (refusal 20)

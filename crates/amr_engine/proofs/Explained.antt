@@ -3,6 +3,7 @@ use Rattle.std.specs.Prelude.{◌≡◌, ℕ, Bool, true, false, List, [], ◌�
 use Rattle.std.specs.Option.{option_or, option_map_or}
 use Rattle.std.specs.List.{Contains, flat_map}
 use Rattle.std.proofs.Common.{refl, ap, subst, inl, inr}
+use Rattle.std.proofs.lemmas.Bool.{cond_both}
 use Rattle.amr_labels.specs.Map.{get}
 use Rattle.amr_labels.specs.Set.{contains}
 use Rattle.amr_labels.specs.Labels.{Text, LabelSet}
@@ -18,7 +19,7 @@ use Rattle.amr_engine.specs.declared.state.notification.LogKey.{LogKey}
 use Rattle.amr_config.specs.declared.route_labels.RouteLabels.{RouteLabels}
 use Rattle.amr_config.specs.RouteLabels.{on_route}
 use Rattle.amr_engine.specs.State.State.{State}
-use Rattle.amr_engine.specs.Stages.{by_inhibition, by_active_time, by_mute_time, by_silence, taken_away}
+use Rattle.amr_engine.specs.Stages.{by_inhibition, by_active_time, by_mute_time, taken_away}
 use Rattle.amr_engine.specs.Flush.{log_key_of}
 use Rattle.amr_engine.specs.declared.verdict.Finding.{Finding}
 use Rattle.amr_engine.specs.declared.verdict.Finding.TheVariants.{Waiting, Inhibited, OutsideActive, TimeMuted, Silenced, Told, Due}
@@ -37,36 +38,24 @@ neither : (o p : Option Finding) → IsNoTold o → IsNoTold p → IsNoTold (opt
 neither None p first later = later
 neither (Some found) p first later = first
 
+-- a test between two, and what is made of a value
+tested : (b : Bool) (o p : Option Finding) → IsNoTold o → IsNoTold p → IsNoTold (if b then o else p)
+tested b o p if_true if_false = cond_both b o p IsNoTold (λ _. if_true) (λ _. if_false)
+
+made : {A : Type 0} (f : A → Finding) → ((x : A) → IsNoTold (Some (f x))) → (o : Option A) → IsNoTold (option_map f o)
+made f others None at e = absurd (cc)
+made f others (Some x) at e = others x at e
+
 waiting_is_none : (timer : GroupTimer) → IsNoTold (waiting timer)
-waiting_is_none timer = elim timer.flushed as (λ b. IsNoTold (if b then None else Some (Waiting timer.next_flush))) [
-  | true ↦ λ at e. absurd (cc)
-  | false ↦ λ at e. absurd (cc)
-]
-
-inhibition_is_none : (o : Option (ℕ × LabelSet)) → IsNoTold (option_map (λ found. Inhibited found.0 found.1) o)
-inhibition_is_none None at e = absurd (cc)
-inhibition_is_none (Some found) at e = absurd (cc)
-
-active_is_none : (b : Bool) → IsNoTold (if b then None else Some OutsideActive)
-active_is_none true at e = absurd (cc)
-active_is_none false at e = absurd (cc)
-
-muted_is_none : (b : Bool) → IsNoTold (if b then Some TimeMuted else None)
-muted_is_none true at e = absurd (cc)
-muted_is_none false at e = absurd (cc)
-
-silence_is_none : (s : State) (now : Moment) (labels : LabelSet) → IsNoTold (by_silence s now labels)
-silence_is_none s now labels = elim (silencer_of now labels s.silences) as (λ o. IsNoTold (option_map Silenced o)) [
-  | None ↦ λ at e. absurd (cc)
-  | Some id ↦ λ at e. absurd (cc)
-]
+waiting_is_none timer = tested timer.flushed None (Some (Waiting timer.next_flush)) (λ at e. absurd (cc)) (λ at e. absurd (cc))
 
 stage_is_none : (s : State) (now : Moment) (route : ℕ) (labels : LabelSet) → IsNoTold (taken_away s now route labels)
 unfolding taken_away
 stage_is_none s now route labels =
-    neither (by_inhibition s now labels) _ (inhibition_is_none (inhibition_from 0 now labels s.alerts s.config.rules))
-    (neither (by_active_time s now route) _ (active_is_none (is_active_at s.config route now))
-    (neither (by_mute_time s now route) _ (muted_is_none (is_muted_at s.config route now)) (silence_is_none s now labels)))
+    neither (by_inhibition s now labels) _ (made (λ (found : ℕ × LabelSet). Inhibited found.0 found.1) (λ found at e. absurd (cc)) (inhibition_from 0 now labels s.alerts s.config.rules))
+    (neither (by_active_time s now route) _ (tested (is_active_at s.config route now) None (Some OutsideActive) (λ at e. absurd (cc)) (λ at e. absurd (cc)))
+    (neither (by_mute_time s now route) _ (tested (is_muted_at s.config route now) (Some TimeMuted) None (λ at e. absurd (cc)) (λ at e. absurd (cc)))
+    (made Silenced (λ id at e. absurd (cc)) (silencer_of now labels s.silences))))
 
 last_one : (o : Option Finding) (last : Finding) (at : Moment) → IsNoTold o → unwrap_or o last ≡ Told at → last ≡ Told at
 last_one None last at none e = e

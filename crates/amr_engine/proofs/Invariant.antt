@@ -1,21 +1,42 @@
 -- What holds at the start, and what moves, the clock and actions keep, holds after every run.
 use Rattle.std.specs.Prelude.{◌≡◌, ℕ, false, List, [], ◌∷◌, ◌++◌, Some, Result, Ok, Err, ◌≤◌, nat_lt}
 use Rattle.std.specs.List.{fold}
-use Rattle.std.proofs.Common.{refl, sym, subst, arith, inl, inr}
-use Rattle.std.proofs.lemmas.Bool.Decides.{nat_tests}
+use Rattle.std.proofs.Common.{refl, sym, subst, inl, inr}
+use Rattle.std.proofs.lemmas.Bool.{ltb-false}
+use Rattle.amr_labels.specs.Labels.{LabelSet}
 use Rattle.amr_time.specs.Time.{Moment}
 use Rattle.amr_config.specs.Stated.Config.{Config}
+use Rattle.amr_rules.specs.declared.alert.Alert.{Alert}
+use Rattle.amr_rules.specs.Silences.{Silences, after_post, after_expiry}
 use Rattle.amr_events.specs.Posts.Reasons.{Reason}
 use Rattle.amr_events.specs.Actions.Events.{Event, Act}
 use Rattle.amr_engine.specs.State.State.{State, start}
 use Rattle.amr_engine.specs.State.Dues.{Due, next_due}
 use Rattle.amr_engine.specs.Moves.{move, Advances}
-use Rattle.amr_engine.specs.Events.{after_act, at_moment, do_event, after_event, after_events, run_of, move_limit}
+use Rattle.amr_engine.specs.Events.{put, put_all, valid_alerts, with_silences, with_config, on_ok, after_act, at_moment, do_event, after_event, after_events, run_of, move_limit}
 use Rattle.amr_engine.specs.Said.{Acts, Does}
 use Rattle.amr_engine.proofs.MovesLaws.{do_within-Does}
 
-not_past : (at now : Moment) → nat_lt at now ≡ false → now ≤ at
-not_past at now e = grind (arith, nat_tests)
+-- what holds at each value of a result
+ok_holds : {A : Type 0} (P : State → Type 0) (f : A → State) → ((x : A) → P (f x)) → (r : Result A Reason) (after : State) → on_ok f r ≡ Ok after → P after
+ok_holds P f holds (Ok x) after e = let is : f x ≡ after = cc in subst P is (holds x)
+ok_holds P f holds (Err reason) after e = absurd (cc)
+
+-- what holds of the state, and after alerts are stored, silences are set and a configuration is
+-- loaded, holds after each action
+module _ (P : State → Type 0) (s : State) (same : P s) (stored : (alerts : List (LabelSet × Alert)) → P (fold put s alerts)) (silenced : (silences : Silences) → P (with_silences s silences))
+    (loaded : (config : Config) → P (with_config s config)) where
+  put_all_holds : (alerts : List (LabelSet × Alert)) (after : State) → put_all s alerts ≡ Ok after → P after
+  put_all_holds [] after e = absurd (cc)
+  put_all_holds (alert ∷ alerts) after e = let is : fold put s (alert ∷ alerts) ≡ after = cc in subst P is (stored (alert ∷ alerts))
+
+  pub act_holds : (act : Act) (after : State) → after_act s act ≡ Ok after → P after
+  unfolding after_act
+  act_holds (Act.Post posted) after e = put_all_holds (valid_alerts s posted) after e
+  act_holds (Act.Silence posted) after e = ok_holds P (with_silences s) silenced (after_post s.moment posted s.silences) after e
+  act_holds (Act.Expire id) after e = ok_holds P (with_silences s) silenced (after_expiry s.moment id s.silences) after e
+  act_holds (Act.Reload config) after e = ok_holds P (with_config s) loaded config after e
+  act_holds act after e = let is : s ≡ after = cc in subst P is same
 
 -- The property is of a state and a moment, which isn't before the state's clock: while an event
 -- makes its moves, its own moment. It may be told of a later moment, and of the state with its
@@ -37,7 +58,7 @@ module _ (P : Moment → State → Type 0)
 
   -- it holds of the state at an accepted event, at the moment of the event
   pub holds_at_event : (s : State) (event : Event) → nat_lt event.at s.moment ≡ false → P s.moment s → P event.at s
-  holds_at_event s event present holds = later s.moment event.at s (not_past event.at s.moment present) holds
+  holds_at_event s event present holds = later s.moment event.at s (ltb-false event.at s.moment present) holds
 
   holds_after_act : (limit : ℕ) (s : State) (event : Event) (moves : List Due) (after : State) → Acts limit s event moves after → P s.moment s → P after.moment after
   holds_after_act limit s event moves after does holds =

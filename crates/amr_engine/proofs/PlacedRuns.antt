@@ -1,6 +1,6 @@
 -- Events leave the alerts placed, and so does a run.
-use Rattle.std.specs.Prelude.{◌≡◌, List, [], ◌∷◌, ◌++◌, Option, Some, None, Result, Ok, Err}
-use Rattle.std.specs.List.{fold, All}
+use Rattle.std.specs.Prelude.{◌≡◌, List, [], ◌∷◌, ◌++◌, Option, Some, None, Ok}
+use Rattle.std.specs.List.{All}
 use Rattle.std.proofs.Common.{refl, sym, ◌∙◌, subst}
 use Rattle.std.proofs.lemmas.List.Elements.{All-nil, All-push, All-pop}
 use Rattle.amr_labels.specs.Map.{get-empty}
@@ -8,16 +8,14 @@ use Rattle.amr_labels.specs.Labels.{LabelSet, label_set_cmp}
 use Rattle.amr_time.specs.Time.{Moment}
 use Rattle.amr_config.specs.Stated.Config.{Config}
 use Rattle.amr_rules.specs.declared.alert.Alert.{Alert}
-use Rattle.amr_rules.specs.Silences.{Silences, after_post, after_expiry}
-use Rattle.amr_events.specs.Posts.Reasons.{Reason}
 use Rattle.amr_events.specs.Actions.Events.{Event, Act}
 use Rattle.amr_config.specs.RouteLabels.{on_route, route_labels_cmp}
 use Rattle.amr_engine.specs.State.State.{State, start}
 use Rattle.amr_engine.specs.State.Dues.{Due, next_due}
 use Rattle.amr_engine.specs.Moves.{move}
-use Rattle.amr_engine.specs.Events.{put_all, valid_alerts, with_config, with_silences, on_ok, after_act, at_moment, put, after_event, run_of, without_notifications}
+use Rattle.amr_engine.specs.Events.{with_silences, after_act, at_moment, after_event, run_of, without_notifications}
 use Rattle.amr_engine.specs.Placed.{IsPlaced, ArePlaced, StayPlaced, HasTimers}
-use Rattle.amr_engine.proofs.Invariant.{holds_after_event, holds_after_run}
+use Rattle.amr_engine.proofs.Invariant.{act_holds, holds_after_event, holds_after_run}
 use Rattle.amr_engine.proofs.PlacedPosts.{placed_as, post_placed, post_moment, reload_placed, reload_moment}
 use Rattle.amr_engine.proofs.PlacedFlush.{placed_later}
 use Rattle.amr_engine.proofs.PlacedMoves.{move_placed}
@@ -36,40 +34,12 @@ record Follows (at : Moment) (s after : State) : Type 0 where
   pub placed : IsPlaced at s → IsPlaced at after
   pub moment : after.moment ≡ s.moment
 
-follows_itself : (at : Moment) (s after : State) → s ≡ after → Follows at s after
-follows_itself at s after same = subst (Follows at s) same (record { placed = λ placed. placed; moment = refl })
-
-module _ (at : Moment) (s after : State) where
-  put_follows : (valid : List (LabelSet × Alert)) → put_all s valid ≡ Ok after → Follows at s after
-  put_follows [] e = absurd (cc)
-  put_follows (alert ∷ alerts) e =
-      let same : fold put s (alert ∷ alerts) ≡ after = cc in
-      subst (Follows at s) same (record { placed = post_placed at (alert ∷ alerts) s; moment = post_moment (alert ∷ alerts) s })
-
-  silences_follow : (r : Result Silences Reason) → on_ok (with_silences s) r ≡ Ok after → Follows at s after
-  silences_follow (Err reason) e = absurd (cc)
-  silences_follow (Ok silences) e =
-      let same : with_silences s silences ≡ after = cc in
-      subst (Follows at s) same (record { placed = placed_as at s (with_silences s silences) refl refl refl refl; moment = refl })
-
-  reload_follows : (r : Result Config Reason) → on_ok (with_config s) r ≡ Ok after → Follows at s after
-  reload_follows (Err reason) e = absurd (cc)
-  reload_follows (Ok config) e =
-      let same : with_config s config ≡ after = cc in
-      subst (Follows at s) same (record { placed = λ placed. reload_placed at s config; moment = reload_moment at s config })
-
-  act_follows : (act : Act) → after_act s act ≡ Ok after → Follows at s after
-  unfolding after_act
-  act_follows (Act.Post posted) e = put_follows (valid_alerts s posted) e
-  act_follows (Act.Silence posted) e = silences_follow (after_post s.moment posted s.silences) e
-  act_follows (Act.Expire id) e = silences_follow (after_expiry s.moment id s.silences) e
-  act_follows (Act.Reload config) e = reload_follows config e
-  act_follows (Act.Label text) e = let same : s ≡ after = cc in follows_itself at s after same
-  act_follows Act.Tick e = let same : s ≡ after = cc in follows_itself at s after same
-
 act_placed : (s : State) (act : Act) (after : State) → ArePlaced s → after_act s act ≡ Ok after → ArePlaced after
 act_placed s act after placed e =
-    let follows : Follows s.moment s after = act_follows s.moment s after act e in
+    let follows : Follows s.moment s after =
+    act_holds (Follows s.moment s) s (record { placed = λ placed. placed; moment = refl }) (λ alerts. record { placed = post_placed s.moment alerts s; moment = post_moment alerts s })
+    (λ silences. record { placed = placed_as s.moment s (with_silences s silences) refl refl refl refl; moment = refl })
+    (λ config. record { placed = λ placed. reload_placed s.moment s config; moment = reload_moment s.moment s config }) act after e in
     subst (λ (at : Moment). IsPlaced at after) (sym follows.moment) (follows.placed placed)
 
 -- ---- events
@@ -95,12 +65,13 @@ run_placed config events = holds_after_run IsPlaced placed_later clock_placed du
 
 -- ---- an engine's state, and those before it
 
+-- with none before
+alone_stays : (after : State) (past : List State) → ArePlaced after → past ≡ [] → StayPlaced after past
+alone_stays after past placed none = record { now = placed; before = subst (All ArePlaced) (sym none) (All-nil ArePlaced) }
+
 -- at the start
 pub start_stays : (config : Config) (s : State) (past : List State) → s ≡ start config → past ≡ [] → StayPlaced s past
-start_stays config s past is none = record {
-  now = subst ArePlaced (sym is) (start_placed config);
-  before = subst (All ArePlaced) (sym none) (All-nil ArePlaced);
-}
+start_stays config s past is = alone_stays s past (subst ArePlaced (sym is) (start_placed config))
 
 -- after an event
 pub applied_stays : (s after : State) (before past : List State) (event : Event) → after ≡ after_event s event → past ≡ before ++ s ∷ [] → StayPlaced s before → StayPlaced after past
@@ -116,17 +87,12 @@ undone_stays s after before past is placed =
 
 -- after the events are forgotten
 pub forgotten_stays : (s after : State) (before past : List State) → after ≡ s → past ≡ [] → StayPlaced s before → StayPlaced after past
-forgotten_stays s after before past is none placed = record {
-  now = subst ArePlaced (sym is) placed.now;
-  before = subst (All ArePlaced) (sym none) (All-nil ArePlaced);
-}
+forgotten_stays s after before past is none placed = alone_stays after past (subst ArePlaced (sym is) placed.now) none
 
 -- after the notifications are dropped
 pub dropped_stays : (s after : State) (before past : List State) → after ≡ without_notifications s → past ≡ [] → StayPlaced s before → StayPlaced after past
-dropped_stays s after before past is none placed = record {
-  now = subst ArePlaced (sym is) (placed_as s.moment s (without_notifications s) refl refl refl refl placed.now);
-  before = subst (All ArePlaced) (sym none) (All-nil ArePlaced);
-}
+dropped_stays s after before past is none placed =
+    alone_stays after past (subst ArePlaced (sym is) (placed_as s.moment s (without_notifications s) refl refl refl refl placed.now)) none
 
 -- ---- the groups of an alert
 

@@ -1,11 +1,9 @@
 -- A flush writes an entry again with the same sets only after the repeat interval.
-use Rattle.std.specs.Prelude.{◌≡◌, ℕ, ◌⊎◌, ◌<◌, ◌+◌, Bool, true, false, not, ◌&&◌, ◌||◌, [], ◌∷◌, Some, if◌then◌else◌, cond, nat_lt}
-use Rattle.std.specs.Ordering.{eq_by_cmp}
-use Rattle.std.proofs.Common.{refl, sym, ap, ◌∙◌, subst, inl, inr, arith}
-use Rattle.std.proofs.lemmas.Bool.Decides.{nat_tests}
+use Rattle.std.specs.Prelude.{◌≡◌, ◌⊎◌, ◌<◌, ◌+◌, Bool, true, false, not, ◌&&◌, ◌||◌, [], ◌∷◌, Some, nat_lt}
+use Rattle.std.proofs.Common.{refl, sym, ap, ◌∙◌, subst, inl, inr}
 use Rattle.std.proofs.lemmas.List.Folds.{list_all-map}
-use Rattle.std.proofs.lemmas.Map.Views.{tells_apart}
-use Rattle.amr_labels.specs.Map.{get, entries, get-insert}
+use Rattle.std.proofs.lemmas.Bool.{cond_both, ltb-true}
+use Rattle.amr_labels.specs.Map.{get, insert, entries}
 use Rattle.amr_labels.specs.Set.{contains, is_subset, is_empty}
 use Rattle.amr_time.specs.Time.{Moment, Span}
 use Rattle.amr_config.specs.declared.stated.receiver.Integration.{Integration}
@@ -20,11 +18,12 @@ use Rattle.amr_engine.specs.State.Dues.{Due}
 use Rattle.amr_engine.specs.declared.state.due.Kind.{Kind}
 use Rattle.amr_engine.specs.declared.state.due.Kind.TheVariants.{GroupFlush}
 use Rattle.amr_config.specs.RouteLabels.{on_route}
-use Rattle.amr_engine.specs.State.State.{State, log_key_cmp, log_key_cmp_total, log_key_cmp-IsAntisymmetric, members}
+use Rattle.amr_engine.specs.State.State.{State, log_key_cmp_total, log_key_cmp-IsAntisymmetric, members}
 use Rattle.amr_engine.specs.Flush.{Members, firing_of, resolved_of, labels_of, log_key_of, let_through, record_notification, notify_if_due, notify_receiver, run_pipeline, flush}
 use Rattle.amr_engine.specs.Told.{RepeatsWait}
 use Rattle.amr_engine.specs.Moves.{move, move_of_kind}
 use Rattle.amr_engine.proofs.MovesKeep.{fold_holds, drop_holds}
+use Rattle.amr_engine.proofs.PlacedLists.{same_or_apart, get-inserted, get-insert_apart}
 
 -- ---- the dedup check of the sets that are there already
 
@@ -38,13 +37,10 @@ only_late true false false true true late e f g due = due
 only_late true false false false true late e f g due = due
 only_late all ended none sent all_resolved late e f g due = absurd (cc)
 
-is_less : (a b : ℕ) → nat_lt a b ≡ true → a < b
-is_less a b e = grind (arith, nat_tests)
-
 same_again : (old : LogEntry) (send_resolved : Bool) (now : Moment) (interval : Span) → needs_update (Some old) old.firing old.resolved send_resolved now interval ≡ true → old.time + interval < now
 unfolding needs_update
 same_again old send_resolved now interval due =
-    is_less (old.time + interval) now
+    ltb-true (old.time + interval) now
     (only_late (is_subset old.firing old.firing) (is_empty old.firing) (is_empty old.firing) send_resolved (is_subset old.resolved old.resolved) (nat_lt (old.time + interval) now)
     (all_contained old.firing) refl (all_contained old.resolved) due)
 
@@ -61,40 +57,29 @@ module _ (at : Moment) (group : RouteLabels) (ms : Members) (config : Config) (k
 
   -- an entry is written at a key
   module _ (s : State) (at_key : LogKey) (send_resolved : Bool) (due : needs_update (get s.log at_key) written.firing written.resolved send_resolved at (repeat_interval_of s.config group.route) ≡ true) where
-    after_due : (b : Bool) → eq_by_cmp log_key_cmp key at_key ≡ b → IsOldOrDue s → IsOldOrDue (record_notification at group at_key send_resolved ms s)
-    after_due true match is =
-        let found : get (record_notification at group at_key send_resolved ms s).log key ≡ Some written =
-        get-insert log_key_cmp_total s.log at_key written key ∙ ap (λ b. cond b (Some written) (get s.log key)) match in
-        let same_key : at_key ≡ key = sym (tells_apart log_key_cmp-IsAntisymmetric key at_key match) in (
-          is.0,
-          inr (
-            found,
-            elim is.1 [
-              | inl was ↦ (send_resolved, sym (λ i. needs_update (((ap (get s.log) same_key) ∙ was) i) written.firing written.resolved send_resolved at (repeat_interval_of (is.0 i) group.route)) ∙ due)
-              | inr now ↦ now.1
-            ],
-          ),
-        )
-    after_due false other is =
-        let found : get (record_notification at group at_key send_resolved ms s).log key ≡ get s.log key =
-        get-insert log_key_cmp_total s.log at_key written key ∙ ap (λ b. cond b (Some written) (get s.log key)) other in (
-          is.0,
+    after_due : IsOldOrDue s → IsOldOrDue (record_notification at group at_key send_resolved ms s)
+    after_due is = elim (same_or_apart log_key_cmp_total log_key_cmp-IsAntisymmetric key at_key) [
+      | inl same ↦ (
+        is.0,
+        inr (
+          ap (get (insert s.log at_key written)) same ∙ get-inserted log_key_cmp_total log_key_cmp-IsAntisymmetric s.log at_key written,
           elim is.1 [
-            | inl was ↦ inl (found ∙ was)
-            | inr now ↦ inr (found ∙ now.0, now.1)
+            | inl was ↦ (send_resolved, sym (λ i. needs_update ((ap (get s.log) (sym same) ∙ was) i) written.firing written.resolved send_resolved at (repeat_interval_of (is.0 i) group.route)) ∙ due)
+            | inr now ↦ now.1
           ],
-        )
+        ),
+      )
+      | inr apart ↦
+          let found = get-insert_apart log_key_cmp_total log_key_cmp-IsAntisymmetric s.log at_key written key apart.1 in
+          (is.0, elim is.1 [ inl was ↦ inl (found ∙ was) | inr now ↦ inr (found ∙ now.0, now.1) ])
+    ]
 
   notify_due : (s : State) (integration : Integration) → IsOldOrDue s → IsOldOrDue (notify_if_due at group ms s integration)
   unfolding notify_if_due
   notify_due s integration is =
       let at_key : LogKey = log_key_of s.config group integration in
-      elim (needs_update (get s.log at_key) written.firing written.resolved integration.send_resolved at (repeat_interval_of s.config group.route))
-      as (λ b. needs_update (get s.log at_key) written.firing written.resolved integration.send_resolved at (repeat_interval_of s.config group.route) ≡ b
-      → IsOldOrDue (if b then record_notification at group at_key integration.send_resolved ms s else s)) [
-        | true ↦ λ due. after_due s at_key integration.send_resolved due (eq_by_cmp log_key_cmp key at_key) refl is
-        | false ↦ λ not_due. is
-      ] refl
+      cond_both (needs_update (get s.log at_key) written.firing written.resolved integration.send_resolved at (repeat_interval_of s.config group.route))
+      (record_notification at group at_key integration.send_resolved ms s) s IsOldOrDue (λ due. after_due s at_key integration.send_resolved due is) (λ not_due. is)
 
   -- and then it has the old sets only if the interval is over
   waits : (s : State) (new : LogEntry) → IsOldOrDue s → get s.log key ≡ Some new → new.firing ≡ old.firing → new.resolved ≡ old.resolved

@@ -1,12 +1,11 @@
 -- After a flush each integration of the group's receiver was notified of each member that fires and
 -- that no stage mutes.
-use Rattle.std.specs.Prelude.{◌≡◌, ℕ, Bool, true, false, not, ◌||◌, List, [], ◌∷◌, ◌++◌, Option, Some, None, if◌then◌else◌, cond, map}
+use Rattle.std.specs.Prelude.{◌≡◌, ℕ, Bool, true, false, not, ◌||◌, List, [], ◌∷◌, ◌++◌, Option, Some, None, map}
 use Rattle.std.specs.List.{fold, Contains}
 use Rattle.std.specs.Option.{is_none}
-use Rattle.std.specs.Ordering.{eq_by_cmp, is_eq}
 use Rattle.std.proofs.Common.{refl, sym, ap, ◌∙◌, subst, inl, inr}
-use Rattle.std.proofs.lemmas.Cmp.{tied_itself}
-use Rattle.amr_labels.specs.Map.{get, get-insert}
+use Rattle.std.proofs.lemmas.Bool.{cond_both}
+use Rattle.amr_labels.specs.Map.{get}
 use Rattle.amr_labels.specs.Set.{contains, is_subset, is_empty}
 use Rattle.amr_labels.specs.Labels.{LabelSet}
 use Rattle.amr_time.specs.Time.{Moment}
@@ -25,15 +24,15 @@ use Rattle.amr_engine.specs.declared.state.due.Kind.TheVariants.{GroupFlush}
 use Rattle.amr_engine.specs.declared.state.notification.LogKey.{LogKey}
 use Rattle.amr_config.specs.declared.route_labels.RouteLabels.{RouteLabels}
 use Rattle.amr_config.specs.RouteLabels.{on_route}
-use Rattle.amr_engine.specs.State.State.{State, log_key_cmp, log_key_cmp_total, members}
+use Rattle.amr_engine.specs.State.State.{State, log_key_cmp_total, log_key_cmp-IsAntisymmetric, members}
 use Rattle.amr_engine.specs.Stages.{taken_away}
 use Rattle.amr_engine.specs.Flush.{Members, firing_of, resolved_of, labels_of, log_key_of, let_through, record_notification, notify_if_due, notify_receiver, run_pipeline, flush}
 use Rattle.amr_engine.specs.Moves.{move, move_of_kind, Advances}
-use Rattle.amr_engine.specs.Said.{Does}
 use Rattle.amr_engine.specs.Neutral.{Accepts}
 use Rattle.amr_engine.specs.Told.{LogIsNotified, AllAreNotified, after_moves}
 use Rattle.amr_engine.proofs.MovesLaws.{do_within-Does}
 use Rattle.amr_engine.proofs.Told.{move_holds, between_is_notified}
+use Rattle.amr_engine.proofs.PlacedLists.{same_or_apart, get-inserted, get-insert_apart}
 use Rattle.amr_engine.proofs.MovesKeep.{fold_holds, drop_holds, notify_holds}
 use Rattle.amr_engine.proofs.Listed.{none_listed, first_or_rest, listed_filter, listed_map, in_set, in_superset, listed_in_set}
 
@@ -73,31 +72,25 @@ module _ (at : Moment) (group : RouteLabels) (ms : Members) (labels : LabelSet) 
         (listed_in_set (map (λ member. member.0) (firing_of at ms)) labels fires),
   )
 
-  logs_at : (s : State) (key : LogKey) (send_resolved : Bool) (asked : LogKey) (b : Bool) → eq_by_cmp log_key_cmp asked key ≡ b → HasLogged asked labels s
-      → HasLogged asked labels (record_notification at group key send_resolved ms s)
-  logs_at s key send_resolved asked true same has =
-      (record { time = at; firing = firing; resolved = resolved }, get-insert log_key_cmp_total s.log key _ asked ∙ ap (λ b. cond b (Some (record { time = at; firing = firing; resolved = resolved })) (get s.log asked)) same, fires)
-  logs_at s key send_resolved asked false other has =
-      (has.0, get-insert log_key_cmp_total s.log key _ asked ∙ ap (λ b. cond b (Some (record { time = at; firing = firing; resolved = resolved })) (get s.log asked)) other ∙ has.1, has.2)
+  abbrev written : LogEntry
+  written = record { time = at; firing = firing; resolved = resolved }
 
   logs_now : (s : State) (key : LogKey) (send_resolved : Bool) → HasLogged key labels (record_notification at group key send_resolved ms s)
-  logs_now s key send_resolved = (
-    record { time = at; firing = firing; resolved = resolved },
-    get-insert log_key_cmp_total s.log key _ key
-        ∙ ap (λ r. cond (is_eq r) (Some (record { time = at; firing = firing; resolved = resolved })) (get s.log key)) (tied_itself log_key_cmp_total key),
-    fires,
-  )
+  logs_now s key send_resolved = (written, get-inserted log_key_cmp_total log_key_cmp-IsAntisymmetric s.log key written, fires)
+
+  logs_at : (s : State) (key : LogKey) (send_resolved : Bool) (asked : LogKey) → HasLogged asked labels s → HasLogged asked labels (record_notification at group key send_resolved ms s)
+  logs_at s key send_resolved asked has = elim (same_or_apart log_key_cmp_total log_key_cmp-IsAntisymmetric asked key) [
+    | inl same ↦ subst (λ (k : LogKey). HasLogged k labels (record_notification at group key send_resolved ms s)) (sym same) (logs_now s key send_resolved)
+    | inr apart ↦ (has.0, get-insert_apart log_key_cmp_total log_key_cmp-IsAntisymmetric s.log key written asked apart.1 ∙ has.1, has.2)
+  ]
 
   -- the integration's entry has it after its turn
   notify_logs : (s : State) (integration : Integration) → HasLogged (key_at s integration) labels (notify_if_due at group ms s integration)
   unfolding notify_if_due
   notify_logs s integration =
-      elim (needs_update (get s.log (key_at s integration)) firing resolved integration.send_resolved at (repeat_interval_of s.config group.route))
-      as (λ b. needs_update (get s.log (key_at s integration)) firing resolved integration.send_resolved at (repeat_interval_of s.config group.route) ≡ b
-      → HasLogged (key_at s integration) labels (if b then record_notification at group (key_at s integration) integration.send_resolved ms s else s)) [
-        | true ↦ λ due. logs_now s (key_at s integration) integration.send_resolved
-        | false ↦ λ not_due. was_logged s integration (get s.log (key_at s integration)) refl not_due
-      ] refl
+      cond_both (needs_update (get s.log (key_at s integration)) firing resolved integration.send_resolved at (repeat_interval_of s.config group.route))
+      (record_notification at group (key_at s integration) integration.send_resolved ms s) s (HasLogged (key_at s integration) labels)
+      (λ due. logs_now s (key_at s integration) integration.send_resolved) (λ not_due. was_logged s integration (get s.log (key_at s integration)) refl not_due)
 
   -- the configuration stays
   notify_config : (s : State) (integration : Integration) → (notify_if_due at group ms s integration).config ≡ s.config
@@ -106,7 +99,7 @@ module _ (at : Moment) (group : RouteLabels) (ms : Members) (labels : LabelSet) 
   -- and after the turns of others
   notify_leaves : (key : LogKey) (s : State) (integration : Integration) → HasLogged key labels s → HasLogged key labels (notify_if_due at group ms s integration)
   notify_leaves key = notify_holds (HasLogged key labels) at group ms
-      (λ s integration has. logs_at s (key_at s integration) integration.send_resolved key (eq_by_cmp log_key_cmp key (key_at s integration)) refl has)
+      (λ s integration has. logs_at s (key_at s integration) integration.send_resolved key has)
 
   each_logs : (integrations : List Integration) (s : State) (integration : Integration) → Contains integrations integration
       → HasLogged (key_at s integration) labels (fold (notify_if_due at group ms) s integrations)
@@ -169,10 +162,9 @@ no_part (first ∷ before) later due e = absurd (cc)
 pub flushes_notify : (limit : ℕ) (s : State) (event : Event) (moves : List Due) (after : State) → LogIsNotified s → Accepts limit s event moves after
     → (before later : List Due) (due : Due) → moves ≡ before ++ due ∷ later → due.kind ≡ GroupFlush
     → AllAreNotified (after_moves s before) due.moment (on_route due.route due.labels) (move due (after_moves s before))
-flushes_notify limit s event moves after notified accepted before later due parts is_flush = by (do_within-Does limit s event moves after accepted)
-  where
-    by : Does limit s event moves after → AllAreNotified (after_moves s before) due.moment (on_route due.route due.labels) (move due (after_moves s before))
-    by (inl names) = absurd (no_part before later due (sym parts ∙ names.none))
-    by (inr acts) =
-        let run : Advances event.at s (before ++ due ∷ later) acts.moved = subst (λ (ds : List Due). Advances event.at s ds acts.moved) parts acts.advanced in
-        flush_notifies due (after_moves s before) is_flush (between_is_notified event.at before (due ∷ later) s acts.moved run notified)
+flushes_notify limit s event moves after notified accepted before later due parts is_flush = elim (do_within-Does limit s event moves after accepted) [
+  | inl names ↦ absurd (no_part before later due (sym parts ∙ names.none))
+  | inr acts ↦
+      let run : Advances event.at s (before ++ due ∷ later) acts.moved = subst (λ (ds : List Due). Advances event.at s ds acts.moved) parts acts.advanced in
+      flush_notifies due (after_moves s before) is_flush (between_is_notified event.at before (due ∷ later) s acts.moved run notified)
+]

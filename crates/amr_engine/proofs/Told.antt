@@ -1,12 +1,10 @@
 -- In every run, each alert that an entry of the log has among those that fire is in the entry's
 -- notification.
-use Rattle.std.specs.Prelude.{◌≡◌, Bool, true, false, List, [], ◌∷◌, ◌++◌, Some, Result, Ok, Err, if◌then◌else◌, cond, map}
-use Rattle.std.specs.List.{fold, Contains}
-use Rattle.std.specs.Ordering.{eq_by_cmp}
-use Rattle.std.proofs.Common.{refl, sym, ap, ◌∙◌, subst}
+use Rattle.std.specs.Prelude.{◌≡◌, Bool, true, List, [], ◌∷◌, ◌++◌, Ok, if◌then◌else◌, map}
+use Rattle.std.specs.List.{Contains}
+use Rattle.std.proofs.Common.{refl, sym, ap, ◌∙◌, subst, inl, inr}
 use Rattle.std.proofs.lemmas.List.Elements.{Contains-append_left, Contains-append_right}
-use Rattle.std.proofs.lemmas.Map.Views.{tells_apart}
-use Rattle.amr_labels.specs.Map.{get, entries, empty, get-empty, get-insert}
+use Rattle.amr_labels.specs.Map.{entries, empty, get-empty}
 use Rattle.amr_labels.specs.Set.{contains}
 use Rattle.amr_labels.specs.Labels.{LabelSet}
 use Rattle.amr_time.specs.Time.{Moment}
@@ -14,8 +12,6 @@ use Rattle.amr_config.specs.Stated.Config.{Config}
 use Rattle.amr_config.specs.Routing.{chosen_routes}
 use Rattle.amr_rules.specs.declared.alert.Alert.{Alert}
 use Rattle.amr_rules.specs.declared.dedup.LogEntry.{LogEntry}
-use Rattle.amr_rules.specs.Silences.{after_post, after_expiry}
-use Rattle.amr_events.specs.Posts.Reasons.{Reason}
 use Rattle.amr_events.specs.Actions.Events.{Event, Act}
 use Rattle.amr_engine.specs.State.Dues.{Due}
 use Rattle.amr_engine.specs.declared.state.notification.LogKey.{LogKey}
@@ -24,33 +20,25 @@ use Rattle.amr_config.specs.declared.route_labels.RouteLabels.{RouteLabels}
 use Rattle.amr_engine.specs.State.State.{State, start, log_key_cmp, log_key_cmp_total, log_key_cmp-IsAntisymmetric, insert_into_groups, insert_into_group}
 use Rattle.amr_engine.specs.Flush.{Members, firing_of, resolved_of, labels_of, log_key_of, notified_firing, notified_resolved, notifications_of, record_notification}
 use Rattle.amr_engine.specs.Moves.{move, Advances}
-use Rattle.amr_engine.specs.Events.{put, put_all, valid_alerts, with_config, with_silences, on_ok, after_act, run_of}
+use Rattle.amr_engine.specs.Events.{put, with_config, after_act, run_of}
 use Rattle.amr_engine.specs.Told.{HasNotification, LogIsNotified, after_moves}
 use Rattle.amr_engine.proofs.Invariant.{holds_after_run, holds_between}
+use Rattle.amr_engine.proofs.Invariant as invariant
 use Rattle.amr_engine.proofs.MovesKeep.{fold_holds}
 use Rattle.amr_engine.proofs.MovesKeep as moves
 use Rattle.amr_engine.proofs.Listed.{none_listed, listed_first, listed_in_set}
+use Rattle.amr_engine.proofs.PlacedLists.{get-insert_cases}
 
 -- ---- the notification of an entry
 
-module _ (at : Moment) (key : LogKey) (labels : LabelSet) (notes more : List Notification) where
-  notified_before : HasNotification notes at key labels → HasNotification (notes ++ more) at key labels
-  notified_before has = record {
-    notification = has.notification;
-    listed = Contains-append_left notes more has.notification has.listed;
-    moment = has.moment;
-    of_key = has.of_key;
-    fires = has.fires;
-  }
-
-  notified_now : HasNotification more at key labels → HasNotification (notes ++ more) at key labels
-  notified_now has = record {
-    notification = has.notification;
-    listed = Contains-append_right notes more has.notification has.listed;
-    moment = has.moment;
-    of_key = has.of_key;
-    fires = has.fires;
-  }
+notified_in : (at : Moment) (key : LogKey) (labels : LabelSet) (notes all : List Notification) → ((n : Notification) → Contains notes n → Contains all n) → HasNotification notes at key labels → HasNotification all at key labels
+notified_in at key labels notes all listed has = record {
+  notification = has.notification;
+  listed = listed has.notification has.listed;
+  moment = has.moment;
+  of_key = has.of_key;
+  fires = has.fires;
+}
 
 same_labels : (ms : Members) → map (λ alert. alert.labels) (map notified_firing ms) ≡ map (λ member. member.0) ms
 same_labels [] = refl
@@ -77,18 +65,13 @@ module _ (at : Moment) (group : RouteLabels) (key : LogKey) (send_resolved : Boo
     abbrev appended : List Notification
     appended = notifications_of at group key send_resolved (firing_of at ms) (resolved_of at ms)
 
-    recorded_entry : LogIsNotified s → (asked : LogKey) (entry : LogEntry) (labels : LabelSet) (b : Bool) → eq_by_cmp log_key_cmp asked key ≡ b
-        → cond b (Some written) (get s.log asked) ≡ Some entry → contains entry.firing labels ≡ true → HasNotification (s.notes ++ appended) entry.time asked labels
-    recorded_entry holds asked entry labels true same logged fires =
-        let is : written ≡ entry = cc in
-        let asked_is : key ≡ asked = sym (tells_apart log_key_cmp-IsAntisymmetric asked key same) in
-        subst (λ (x : LogEntry × LogKey). HasNotification (s.notes ++ appended) x.0.time x.1 labels) (λ i. (is i, asked_is i))
-        (notified_now at key labels s.notes appended (has_fired (firing_of at ms) (resolved_of at ms) labels (ap (λ (x : LogEntry). contains x.firing labels) is ∙ fires)))
-    recorded_entry holds asked entry labels false other logged fires = notified_before entry.time asked labels s.notes appended (holds asked entry labels logged fires)
-
     recorded : LogIsNotified s → LogIsNotified (record_notification at group key send_resolved ms s)
-    recorded holds = λ asked entry labels logged fires.
-        recorded_entry holds asked entry labels (eq_by_cmp log_key_cmp asked key) refl (sym (get-insert log_key_cmp_total s.log key written asked) ∙ logged) fires
+    recorded holds = λ asked entry labels logged fires. elim (get-insert_cases log_key_cmp_total log_key_cmp-IsAntisymmetric s.log key written asked entry logged) [
+      | inl is ↦ subst (λ (x : LogEntry × LogKey). HasNotification (s.notes ++ appended) x.0.time x.1 labels) (λ i. (is.1 i, sym is.0 i))
+          (notified_in at key labels appended (s.notes ++ appended) (Contains-append_right s.notes appended)
+          (has_fired (firing_of at ms) (resolved_of at ms) labels (ap (λ (x : LogEntry). contains x.firing labels) is.1 ∙ fires)))
+      | inr was ↦ notified_in entry.time asked labels s.notes (s.notes ++ appended) (Contains-append_left s.notes appended) (holds asked entry labels was fires)
+    ]
 
 pub move_holds : (due : Due) (s : State) → LogIsNotified s → LogIsNotified (move due s)
 move_holds = moves.move_holds LogIsNotified
@@ -106,27 +89,13 @@ put_holds : (s : State) (alert : LabelSet × Alert) → LogIsNotified s → LogI
 unfolding put
 put_holds s alert holds = inserted_holds _ _ holds
 
-put_all_holds : (s : State) (alerts : List (LabelSet × Alert)) (after : State) → LogIsNotified s → put_all s alerts ≡ Ok after → LogIsNotified after
-put_all_holds s [] after holds e = absurd (cc)
-put_all_holds s (alert ∷ alerts) after holds e =
-    let is : fold put s (alert ∷ alerts) ≡ after = cc in subst LogIsNotified is (fold_holds LogIsNotified put put_holds (alert ∷ alerts) s holds)
-
-ok_holds : {A : Type 0} (f : A → State) → ((x : A) → LogIsNotified (f x)) → (r : Result A Reason) (after : State) → on_ok f r ≡ Ok after → LogIsNotified after
-ok_holds f holds (Ok x) after e = let is : f x ≡ after = cc in subst LogIsNotified is (holds x)
-ok_holds f holds (Err reason) after e = absurd (cc)
-
 with_config_holds : (s : State) (config : Config) → LogIsNotified s → LogIsNotified (with_config s config)
 unfolding with_config
 with_config_holds s config holds = fold_holds LogIsNotified insert_into_groups inserted_holds (entries s.alerts) (record s { config = config; placements = empty; timers = empty }) holds
 
 act_holds : (s : State) (act : Act) (after : State) → LogIsNotified s → after_act s act ≡ Ok after → LogIsNotified after
-unfolding after_act
-act_holds s (Act.Post posted) after holds e = put_all_holds s (valid_alerts s posted) after holds e
-act_holds s (Act.Silence posted) after holds e = ok_holds (with_silences s) (λ silences. holds) (after_post s.moment posted s.silences) after e
-act_holds s (Act.Expire id) after holds e = ok_holds (with_silences s) (λ silences. holds) (after_expiry s.moment id s.silences) after e
-act_holds s (Act.Reload config) after holds e = ok_holds (with_config s) (λ config. with_config_holds s config holds) config after e
-act_holds s Act.Tick after holds e = let is : s ≡ after = cc in subst LogIsNotified is holds
-act_holds s (Act.Label text) after holds e = let is : s ≡ after = cc in subst LogIsNotified is holds
+act_holds s act after holds =
+    invariant.act_holds LogIsNotified s holds (λ alerts. fold_holds LogIsNotified put put_holds alerts s holds) (λ silences. holds) (λ config. with_config_holds s config holds) act after
 
 -- ---- a run
 
