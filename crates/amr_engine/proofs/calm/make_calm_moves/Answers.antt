@@ -1,11 +1,12 @@
-use Rattle.std.proofs.Common.{◌≡◌, ◌<◌, ◌≤◌, ◌+◌, ◌-◌, ◌*◌, ◌/◌, ℕ, Option, Some, None, sym, ap, subst, ◌∙◌, arith}
+use Rattle.std.proofs.Common.{◌≡◌, ◌<◌, ◌≤◌, ◌+◌, ◌-◌, ◌*◌, ◌/◌, ℕ, Some, None, sym, ap, subst, ◌∙◌, arith}
 use Rattle.amr_config.specs.Routing.{group_interval_of}
-use Rattle.amr_engine.specs.State.State.{State}
-use Rattle.amr_engine.specs.State.Dues.{due_at}
+use Rattle.amr_engine.specs.declared.state.due.Timer.TheVariants as timers
+use Rattle.amr_engine.specs.State.Dues.{due_at, next_due}
 use Rattle.amr_engine.specs.Moves.{advance, counted_run, plus_moves}
 use Rattle.amr_engine.specs.Weight.{first_weight}
 use Rattle.amr_engine.proofs.Cascade.{plus_twice, stops}
 use Rattle.amr_engine.proofs.Calming.{only_flushes, are_apart, more_flushes, at_once, over_at_once, Weighs, moves_weigh}
+use Rattle.amr_engine.proofs.calm.make_calm_moves.Goals.{After-group_interval-interval}
 use Rattle.amr_engine.proofs.calm.make_calm_moves.Goals as goal
 
 pub unreachable-requires : goal.unreachable-requires
@@ -13,50 +14,43 @@ unreachable-requires c =
     only_flushes c.args.at c.loop-due.store.state c.due.inside.moment c.due.inside.timer c.loop-due.invariant.calm
     (sym (rw c.in-Some.is at c.in_ok-due.ensures.due) ∙ ap (λ due. Some due) (sym c.due.view_is)) c.in_default-timer.not-GroupFlush
 
+-- the flush of the group is next
+next_is : (c : After-group_interval-interval) → next_due c.args.at c.loop-due.store.state ≡ Some (due_at c.due.inside.moment (timers.GroupFlush c.in-GroupFlush.group))
+next_is c = sym (rw c.in-Some.is at c.in_ok-due.ensures.due) ∙ ap (λ due. Some due) (sym c.due.view_is) ∙ ap (λ timer. Some (due_at c.due.inside.moment timer)) c.in-GroupFlush.is
+
+interval_is : (c : After-group_interval-interval) → c.group_interval-interval.result ≡ group_interval_of c.loop-due.store.state.config c.in-GroupFlush.group.route
+interval_is c = c.group_interval-interval.ensures ∙ ap (λ config. group_interval_of config c.in-GroupFlush.group.route) c.config.ensures
+
+apart : (c : After-group_interval-interval) → 0 < c.group_interval-interval.result
+apart c = subst (λ n. 0 < n) (sym (interval_is c)) (are_apart c.args.at c.loop-due.store.state c.due.inside.moment c.in-GroupFlush.group c.loop-due.invariant.calm (next_is c))
+
 pub flushes_until-flushes-requires-clause-apart : goal.flushes_until-flushes-requires-clause-apart
-flushes_until-flushes-requires-clause-apart c =
-    let s = c.loop-due.store.state in
-    let group = c.in-GroupFlush.group in
-    let next = sym (rw c.in-Some.is at c.in_ok-due.ensures.due) ∙ ap (λ due. Some due) (sym c.due.view_is) ∙ ap (λ timer. Some (due_at c.due.inside.moment timer)) c.in-GroupFlush.is in
-    let interval = c.group_interval-interval.ensures ∙ ap (λ config. group_interval_of config group.route) c.config.ensures in
-    subst (λ n. 0 < n) (sym interval) (are_apart c.args.at s c.due.inside.moment group c.loop-due.invariant.calm next)
+flushes_until-flushes-requires-clause-apart c = apart (goal.at.flushes_until-flushes-requires-clause-apart c).After-group_interval-interval
 
 pub last_flush-requires-clause-apart : goal.last_flush-requires-clause-apart
-last_flush-requires-clause-apart c =
-    let s = c.loop-due.store.state in
-    let group = c.in-GroupFlush.group in
-    let next = sym (rw c.in-Some.is at c.in_ok-due.ensures.due) ∙ ap (λ due. Some due) (sym c.due.view_is) ∙ ap (λ timer. Some (due_at c.due.inside.moment timer)) c.in-GroupFlush.is in
-    let interval = c.group_interval-interval.ensures ∙ ap (λ config. group_interval_of config group.route) c.config.ensures in
-    subst (λ n. 0 < n) (sym interval) (are_apart c.args.at s c.due.inside.moment group c.loop-due.invariant.calm next)
+last_flush-requires-clause-apart c = apart (goal.at.last_flush-requires-clause-apart c).After-group_interval-interval
+
+flushes_are : (c : After-group_interval-interval) (flushes : ℕ) → flushes ≡ (c.args.at - c.due.inside.moment) / c.group_interval-interval.result + 1
+    → flushes ≡ more_flushes c.args.at c.loop-due.store.state c.due.inside.moment c.in-GroupFlush.group + 1
+flushes_are c flushes are = are ∙ ap (λ n. (c.args.at - c.due.inside.moment) / n + 1) (interval_is c)
 
 -- there are more flushes than moves are left
-over : (left made at : ℕ) (s before : State) (o : Option (ℕ × State)) → o ≡ plus_moves (counted_run (advance (left - made) at s)) made → counted_run (advance (left - made) at s) ≡ None → o ≡ None
-over left made at s before o ok none = ok ∙ ap (λ r. plus_moves r made) none
+over : (c : After-group_interval-interval) (flushes : ℕ) → flushes ≡ (c.args.at - c.due.inside.moment) / c.group_interval-interval.result + 1 → c.args.left - c.loop-due.made < flushes
+    → counted_run (advance c.args.left c.args.at c.args.store.now.state) ≡ None
+over c flushes are more =
+    c.loop-due.invariant.ok
+    ∙ ap (λ r. plus_moves r c.loop-due.made) (over_at_once c.args.at c.loop-due.store.state c.due.inside.moment c.in-GroupFlush.group (c.args.left - c.loop-due.made) c.loop-due.invariant.calm (next_is c)
+    (subst (λ n. c.args.left - c.loop-due.made < n) (flushes_are c flushes are) more))
 
 pub returns-then-flushes-left-clause-made : goal.returns-then-flushes-left-clause-made
 returns-then-flushes-left-clause-made c =
-    let at = c.args.at in
-    let s = c.loop-due.store.state in
-    let group = c.in-GroupFlush.group in
-    let moment = c.due.inside.moment in
-    let next = sym (rw c.in-Some.is at c.in_ok-due.ensures.due) ∙ ap (λ due. Some due) (sym c.due.view_is) ∙ ap (λ timer. Some (due_at moment timer)) c.in-GroupFlush.is in
-    let interval = c.group_interval-interval.ensures ∙ ap (λ config. group_interval_of config group.route) c.config.ensures in
-    let flushes : c.flushes_until-flushes.result ≡ more_flushes at s moment group + 1 = c.flushes_until-flushes.ensures ∙ ap (λ n. (at - moment) / n + 1) interval in
-    let more : c.args.left - c.loop-due.made < more_flushes at s moment group + 1 = subst (λ n. c.args.left - c.loop-due.made < n) flushes c.if-flushes-left.true in
-    sym (over c.args.left c.loop-due.made at s c.args.store.now.state _ c.loop-due.invariant.ok (over_at_once at s moment group (c.args.left - c.loop-due.made) c.loop-due.invariant.calm next more))
+    sym (over (goal.at.returns-then-flushes-left-clause-made c).After-group_interval-interval c.flushes_until-flushes.result c.flushes_until-flushes.ensures c.if-flushes-left.true)
 
 pub returns-then-flushes-left-clause-grown : goal.returns-then-flushes-left-clause-grown
 returns-then-flushes-left-clause-grown c =
-    let at = c.args.at in
-    let s = c.loop-due.store.state in
-    let group = c.in-GroupFlush.group in
-    let moment = c.due.inside.moment in
-    let next = sym (rw c.in-Some.is at c.in_ok-due.ensures.due) ∙ ap (λ due. Some due) (sym c.due.view_is) ∙ ap (λ timer. Some (due_at moment timer)) c.in-GroupFlush.is in
-    let interval = c.group_interval-interval.ensures ∙ ap (λ config. group_interval_of config group.route) c.config.ensures in
-    let flushes : c.flushes_until-flushes.result ≡ more_flushes at s moment group + 1 = c.flushes_until-flushes.ensures ∙ ap (λ n. (at - moment) / n + 1) interval in
-    let more : c.args.left - c.loop-due.made < more_flushes at s moment group + 1 = subst (λ n. c.args.left - c.loop-due.made < n) flushes c.if-flushes-left.true in
-    let none = over c.args.left c.loop-due.made at s c.args.store.now.state _ c.loop-due.invariant.ok (over_at_once at s moment group (c.args.left - c.loop-due.made) c.loop-due.invariant.calm next more) in
-    let weight : c.args.left ≤ first_weight c.args.left at c.args.store.now.state = subst (Weighs at c.args.left c.args.store.now.state) none (moves_weigh at c.args.left c.args.store.now.state) in
+    let before = c.args.store.now.state in
+    let none = over (goal.at.returns-then-flushes-left-clause-grown c).After-group_interval-interval c.flushes_until-flushes.result c.flushes_until-flushes.ensures c.if-flushes-left.true in
+    let weight : c.args.left ≤ first_weight c.args.left c.args.at before = subst (Weighs c.args.at c.args.left before) none (moves_weigh c.args.at c.args.left before) in
     omega (arith, weight, c.loop-due.invariant.grown, c.loop-due.invariant.within)
 
 pub loop-due-preserved : goal.loop-due-preserved
@@ -69,12 +63,11 @@ loop-due-preserved c =
     let group = c.in-GroupFlush.group in
     let moment = c.due.inside.moment in
     let inv = c.loop-due.invariant in
-    let next = sym (rw c.in-Some.is at c.in_ok-due.ensures.due) ∙ ap (λ due. Some due) (sym c.due.view_is) ∙ ap (λ timer. Some (due_at moment timer)) c.in-GroupFlush.is in
-    let interval = c.group_interval-interval.ensures ∙ ap (λ config. group_interval_of config group.route) c.config.ensures in
+    let d = (goal.at.loop-due-preserved c).After-group_interval-interval in
     let count = more_flushes at s moment group + 1 in
-    let flushes : c.flushes_until-flushes.result ≡ count = c.flushes_until-flushes.ensures ∙ ap (λ n. (at - moment) / n + 1) interval in
-    let last = c.last_flush.ensures ∙ ap (λ n. moment + (at - moment) / n * n) interval in
-    let all = at_once at s t moment group c.last_flush.result inv.calm next last c.in_ok-reset_timer.ensures.ok in
+    let flushes = flushes_are d c.flushes_until-flushes.result c.flushes_until-flushes.ensures in
+    let last = c.last_flush.ensures ∙ ap (λ n. moment + (at - moment) / n * n) (interval_is d) in
+    let all = at_once at s t moment group c.last_flush.result inv.calm (next_is d) last c.in_ok-reset_timer.ensures.ok in
     let rest = left - (made + c.flushes_until-flushes.result) in
     let split : left - made ≡ count + rest = omega (arith, inv.within, flushes, c.if-flushes-left.false) in
     record {
