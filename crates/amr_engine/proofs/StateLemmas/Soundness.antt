@@ -1,35 +1,24 @@
 -- Records that can be put back.
-use Rattle.std.proofs.Common.{◌≡◌, ◌≤◌, ℕ, true, false, ◌||◌, List, [], ◌∷◌, ◌++◌, Option, Some, None, IsTrue, refl, subst, sym, ap, cond, is_some, ◌∙◌, length, length-append, arith}
-use Rattle.std.proofs.Math.Nat.{le_refl}
+use Rattle.std.proofs.Common.{◌≡◌, ◌≤◌, ℕ, List, [], ◌∷◌, ◌++◌, Option, Some, None, IsTrue, refl, subst, sym, ap, is_some, ◌∙◌, length}
 use Rattle.std.specs.Prelude.{IfSome}
 use Rattle.std.specs.List.{flat_map}
 use Rattle.std.proofs.lemmas.List.{append-nil, append_assoc}
 use Rattle.std.proofs.lemmas.Grind.{flat_map-append}
 use Rattle.std.specs.declared.cmp.Ordering.{Ordering}
 use Rattle.std.specs.Ordering.{nat_cmp}
-use Rattle.std.specs.FinMap.{nat_cmp-IsAntisymmetric}
-use Rattle.std.proofs.lemmas.Map.Views.{tells_apart}
-use Rattle.amr_engine.proofs.StateLemmas.Least.{either, not_both}
 use Rattle.amr_tables.specs.Numbered.{Numbered, number_of, has_place}
 use Rattle.amr_tables.specs.Records.{Records}
-use Rattle.amr_labels.specs.Labels.{LabelSet, label_set_cmp, label_set_cmp-IsAntisymmetric}
+use Rattle.amr_labels.specs.Labels.{label_set_cmp}
 use Rattle.amr_time.specs.Time.{latest_read}
-use Rattle.amr_config.specs.declared.route_labels.RouteLabels.{RouteLabels}
-use Rattle.amr_engine.specs.declared.state.notification.LogKey.{LogKey}
-use Rattle.amr_engine.specs.declared.state.notification.GroupTimer.{GroupTimer}
 use Rattle.amr_engine.specs.declared.state.notification.Notification.{Notification}
-use Rattle.amr_rules.specs.declared.alert.Alert.{Alert}
-use Rattle.amr_rules.specs.declared.silence.Silence.{Silence}
-use Rattle.amr_rules.specs.declared.dedup.LogEntry.{LogEntry}
 use Rattle.amr_engine.specs.declared.state.change.Change.{Change}
 use Rattle.amr_engine.specs.declared.state.change.Change.TheVariants.{OfMoment, OfRoster, OfAlert, OfSilence, OfMember, OfTimer, OfLog, OfNotes}
 use Rattle.amr_engine.specs.declared.state.tables.Tables.{Tables}
 use Rattle.amr_engine.specs.State.Records.{after_change, put_back}
-use Rattle.amr_config.specs.RouteLabels.{route_labels_cmp, route_labels_cmp-IsAntisymmetric}
-use Rattle.amr_engine.specs.State.State.{State, log_key_cmp, log_key_cmp-IsAntisymmetric}
+use Rattle.amr_config.specs.RouteLabels.{route_labels_cmp}
+use Rattle.amr_engine.specs.State.State.{State, log_key_cmp}
 use Rattle.amr_engine.specs.State.Allowed.{IsAllowed}
 use Rattle.amr_engine.specs.State.Kept.{before_open_record}
-use Rattle.amr_engine.specs.State.Rostered.{Rostered}
 use Rattle.amr_engine.specs.declared.state.store.Store.TheInside.{Inside}
 use Rattle.amr_engine.specs.State.Stored.{shown_by, state_of, kept_of, entries_of, with_roster, roster_back, change_back, IsSound, AreSound, IsPlaceOf, IsEntered, MorePlaces, SameValues, IsRoomier, IsKept}
 use Rattle.amr_engine.proofs.StateLemmas.Undoing.{put_back-push, put_back-entered, put_back-appended, same_undone}

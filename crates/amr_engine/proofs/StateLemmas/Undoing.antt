@@ -1,7 +1,6 @@
 -- What an event displaces is put back, entry by entry.
-use Rattle.std.proofs.Common.{◌≡◌, ◌≤◌, inl, inr, ℕ, suc, zero, Bool, true, false, ◌||◌, List, [], ◌∷◌, ◌++◌, Option, refl, sym, ap, subst, le_trans, ◌∙◌, length, take}
+use Rattle.std.proofs.Common.{◌≡◌, suc, Bool, true, false, List, [], ◌∷◌, ◌++◌, Option, refl, sym, ap, subst, ◌∙◌, length}
 use Rattle.std.proofs.Math.Seq.{take-append_seam}
-use Rattle.std.proofs.lemmas.List.{take-append-le}
 use Rattle.std.specs.Prelude.{cond}
 use Rattle.std.specs.declared.cmp.Ordering.{Ordering}
 use Rattle.std.specs.Ordering.{eq_by_cmp}
@@ -9,18 +8,16 @@ use Rattle.std.specs.Cmp.{IsTotalOrder, nat_cmp_total}
 use Rattle.std.specs.FinMap.{IsAntisymmetric, nat_cmp-IsAntisymmetric}
 use Rattle.std.proofs.lemmas.Cmp.{eq_by_cmp_equiv}
 use Rattle.std.proofs.lemmas.Map.Views.{tells_apart}
-use Rattle.std.proofs.lemmas.Bool.{or_right}
 use Rattle.amr_labels.specs.Map.{Map, get, set, get-set, set-back, same_map}
 use Rattle.amr_labels.specs.Labels.{label_set_cmp_total, label_set_cmp-IsAntisymmetric}
 use Rattle.amr_rules.specs.declared.alert.Alert.{Alert}
 use Rattle.amr_rules.specs.declared.dedup.LogEntry.{LogEntry}
 use Rattle.amr_rules.specs.Silences.{Silences}
 use Rattle.amr_rules.specs.Muting.{Alerts}
-use Rattle.amr_engine.specs.State.Rostered.{Rostered}
 use Rattle.amr_engine.specs.declared.state.notification.GroupTimer.{GroupTimer}
 use Rattle.amr_engine.specs.declared.state.notification.Notification.{Notification}
 use Rattle.amr_engine.specs.declared.state.change.Change.{Change}
-use Rattle.amr_engine.specs.declared.state.change.Change.TheVariants.{OfMoment, OfRoster, OfAlert, OfSilence, OfMember, OfTimer, OfLog, OfNotes}
+use Rattle.amr_engine.specs.declared.state.change.Change.TheVariants.{OfAlert, OfSilence, OfMember, OfTimer, OfLog, OfNotes}
 use Rattle.amr_config.specs.RouteLabels.{route_labels_cmp, route_labels_cmp_total, route_labels_cmp-IsAntisymmetric}
 use Rattle.amr_engine.specs.State.State.{State, log_key_cmp, log_key_cmp_total, log_key_cmp-IsAntisymmetric}
 use Rattle.amr_engine.specs.declared.state.tables.Tables.{Tables}

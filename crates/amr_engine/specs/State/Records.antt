@@ -1,13 +1,11 @@
 -- Records of events: changes that lead back, and how an event is undone.
 use Rattle.std.specs.Prelude.{List, [], ◌∷◌, take}
-use Rattle.std.specs.Ordering.{nat_cmp}
 use Rattle.amr_labels.specs.Map.{set}
-use Rattle.amr_labels.specs.Labels.{label_set_cmp}
 use Rattle.amr_engine.specs.declared.state.change.Change.{Change}
 use Rattle.amr_engine.specs.declared.state.change.Change.TheVariants.{OfMoment, OfRoster, OfAlert, OfSilence, OfMember, OfTimer, OfLog, OfNotes}
 use Rattle.amr_tables.specs.Numbered.{map_of}
 use Rattle.amr_config.specs.RouteLabels.{route_labels_cmp}
-use Rattle.amr_engine.specs.State.State.{State, log_key_cmp}
+use Rattle.amr_engine.specs.State.State.{State}
 
 -- the state after a change: with the change's value at its place
 abbrev pub after_change : State → Change → State

@@ -1,4 +1,4 @@
-use Rattle.std.proofs.Common.{true, false, sym, ap, ◌∙◌}
+use Rattle.std.proofs.Common.{sym, ap, ◌∙◌}
 use Rattle.std.proofs.lemmas.Bool.{not-false, not-true}
 use Rattle.amr_engine.proofs.Preparing.{no_valid, some_valid}
 use Rattle.amr_engine.proofs.prepare.prepare_post.Goals as goal

@@ -1,15 +1,5 @@
-use Rattle.std.proofs.Common.{◌≡◌, ℕ, true, IsTrue, Some, subst, sym, ap, ◌∙◌, Bool}
-use Rattle.std.specs.Prelude.{◌||◌}
-use Rattle.std.specs.declared.cmp.Ordering.{Ordering}
-use Rattle.std.specs.Ordering.{is_eq}
-use Rattle.std.specs.Cmp.{IsTotalOrder, tied_itself}
-use Rattle.std.proofs.lemmas.Bool.{or_right}
-use Rattle.amr_config.specs.declared.route_labels.RouteLabels.{RouteLabels}
-use Rattle.amr_labels.specs.Labels.{label_set_cmp, label_set_cmp_total}
-use Rattle.amr_tables.specs.Numbered.{Numbered, number_of}
+use Rattle.std.proofs.Common.{IsTrue, subst, sym, ap}
 use Rattle.amr_engine.specs.declared.state.change.Change.TheVariants.{OfLog}
-use Rattle.amr_config.specs.RouteLabels.{route_labels_cmp, route_labels_cmp_total}
-use Rattle.amr_engine.specs.State.State.{log_key_cmp, log_key_cmp_total}
 use Rattle.amr_engine.specs.State.Stored.{shown_by}
 use Rattle.amr_engine.proofs.state.tables.Tables.displace.Goals as goal
 

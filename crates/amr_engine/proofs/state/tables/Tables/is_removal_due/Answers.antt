@@ -1,4 +1,4 @@
-use Rattle.std.specs.Prelude.{true, false, option_map}
+use Rattle.std.specs.Prelude.{option_map}
 use Rattle.std.proofs.Common.{sym, ◌∙◌}
 use Rattle.std.proofs.lemmas.Bool.{true≢false, false_from_ne_true}
 use Rattle.amr_labels.specs.Labels.{label_set_cmp}
