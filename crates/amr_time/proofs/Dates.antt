@@ -1,46 +1,33 @@
 -- jiff's words for a date that exists, as a test.
-use Rattle.std.proofs.Common.{◌≡◌, ℕ, ◌<◌, ◌≤◌, Bool, true, false, leb, ◌&&◌, Some, None, ℤ, pos, refl, ◌∙◌, arith}
-use Rattle.std.proofs.lemmas.Bool.{and_from, and_parts, le-leb, leb-true}
-use Rattle.std.proofs.lemmas.Int.{ints}
+use Rattle.std.proofs.Common.{◌≡◌, ℕ, ◌<◌, ◌≤◌, true, Some, None, pos, to_z, w8, w16, refl, ◌∙◌, arith}
+use Rattle.std.proofs.lemmas.Bool.{false_from_ne_true}
+use Rattle.std.proofs.lemmas.Bool.Decides.{nat_tests}
+use Rattle.std.proofs.lemmas.Int.{ints, to_z_pos}
 use Rattle.jiff_core.specs.Calendar.{IsDate, days_in_month}
 use Rattle.jiff_core.specs.Date.{IsYmd, epoch_day}
 use Rattle.jiff_core.specs.declared.civil.date.Date.{Date}
 use Rattle.amr_time.specs.MomentRead.{is_date, day_number}
 
 tested : (y m d : ℕ) → IsDate (pos y) (pos m) (pos d) → is_date y m d ≡ true
-tested y m d h =
-    and_from _ _ (and_from _ _ (and_from _ _ (le-leb 1 m (omega (arith, ints, h.1.0))) (le-leb m 12 (omega (arith, ints, h.1.1))))
-    (le-leb 1 d (omega (arith, ints, h.2.0)))) (le-leb d (days_in_month (pos y) m) (omega (arith, ints, h.2.1)))
+tested y m d h = grind (arith, ints, nat_tests)
 
 dated : (y m d : ℕ) → y < 10000 → is_date y m d ≡ true → IsDate (pos y) (pos m) (pos d)
 dated y m d lt h =
-    let a = and_parts (leb 1 m && leb m 12 && leb 1 d) (leb d (days_in_month (pos y) m)) h in
-    let b = and_parts (leb 1 m && leb m 12) (leb 1 d) a.0 in
-    let e = and_parts (leb 1 m) (leb m 12) b.0 in
-    let m1 : 1 ≤ m = leb-true 1 m e.0 in
-    let m2 : m ≤ 12 = leb-true m 12 e.1 in
-    let d1 : 1 ≤ d = leb-true 1 d b.1 in
-    let d2 : d ≤ days_in_month (pos y) m = leb-true d (days_in_month (pos y) m) a.1 in
+    let t : (1 ≤ m) × (m ≤ 12) × (1 ≤ d) × (d ≤ days_in_month (pos y) m) = grind (arith, nat_tests) in
     ((omega (arith, ints), omega (arith, ints)), (omega (arith, ints), omega (arith, ints)), (omega (arith, ints), omega (arith, ints)))
 
-same_pos : {m n : ℕ} → pos m ≡ pos n → m ≡ n
-same_pos e = cc
-
-is_false : (b : Bool) → (b ≡ true → ⊥) → b ≡ false
-is_false true h = absurd (h refl)
-is_false false h = refl
-
-pub made : (y m d : ℕ) (zy zm zd : ℤ) (date : Date) → zy ≡ pos y → zm ≡ pos m → zd ≡ pos d → IsDate zy zm zd → IsYmd zy zm zd date → Some (epoch_day date) ≡ day_number y m d
+pub made : (y m d : ℕ) (date : Date) → y < 10000 → m < 100 → d < 100 → IsDate (to_z w16 y) (to_z w8 m) (to_z w8 d) → IsYmd (to_z w16 y) (to_z w8 m) (to_z w8 d) date → Some (epoch_day date) ≡ day_number y m d
 unfolding day_number
-made y m d zy zm zd date ey em ed h ymd =
-    let h2 : IsDate (pos y) (pos m) (pos d) = rw (ey, em, ed) at h in
-    let yes = tested y m d h2 in
-    let month : date.month ≡ m = same_pos (ymd.1 ∙ em) in
-    let day : date.day ≡ d = same_pos (ymd.2 ∙ ed) in
-    rw (yes, ymd.0 ∙ ey, month, day) refl
+made y m d date yl ml dl h ymd =
+    let same : (to_z w16 y ≡ pos y) × (to_z w8 m ≡ pos m) × (to_z w8 d ≡ pos d) = (to_z_pos w16 y (omega arith), to_z_pos w8 m (omega arith), to_z_pos w8 d (omega arith)) in
+    let here : IsDate (pos y) (pos m) (pos d) = rw (same.0, same.1, same.2) at h in
+    let yes = tested y m d here in
+    let month : date.month ≡ m = cc in
+    let day : date.day ≡ d = cc in
+    rw (yes, ymd.0 ∙ same.0, month, day) refl
 
-pub refused : (y m d : ℕ) (zy zm zd : ℤ) → y < 10000 → zy ≡ pos y → zm ≡ pos m → zd ≡ pos d → ¬ (IsDate zy zm zd) → None ≡ day_number y m d
+pub refused : (y m d : ℕ) → y < 10000 → m < 100 → d < 100 → ¬ (IsDate (to_z w16 y) (to_z w8 m) (to_z w8 d)) → None ≡ day_number y m d
 unfolding day_number
-refused y m d zy zm zd lt ey em ed h =
-    let no = is_false (is_date y m d) (λ e. h (rw (ey, em, ed) (dated y m d lt e))) in
-    rw no refl
+refused y m d yl ml dl h =
+    let same : (to_z w16 y ≡ pos y) × (to_z w8 m ≡ pos m) × (to_z w8 d ≡ pos d) = (to_z_pos w16 y (omega arith), to_z_pos w8 m (omega arith), to_z_pos w8 d (omega arith)) in
+    rw (false_from_ne_true (is_date y m d) (λ e. h (rw (same.0, same.1, same.2) (dated y m d yl e)))) refl

@@ -2,7 +2,8 @@
 use Rattle.std.proofs.Common.{◌≡◌, ℕ, ◌+◌, ◌-◌, ◌*◌, ◌^◌, ◌<◌, ◌≤◌, Bool, true, false, cond, leb, List, [], ◌∷◌, length, take, drop, length-drop, fold, min, Some, refl, ap, ◌∙◌, arith}
 use Rattle.std.specs.List.{AllByRecursion, prefix_len}
 use Rattle.std.proofs.Math.Nat.{pow-suc, pow-le-pow_right, mul-le-mul_left}
-use Rattle.std.proofs.lemmas.Bool.{and_parts, leb-true, le-leb}
+use Rattle.std.proofs.lemmas.Bool.{le-leb}
+use Rattle.std.proofs.lemmas.Bool.Decides.{nat_tests}
 use Rattle.std.proofs.lemmas.List.{take_all}
 use Rattle.std.proofs.lemmas.List.Folds.{length-prefix_len}
 use Rattle.std.proofs.lemmas.List.Sums.{take_while-cons}
@@ -10,7 +11,7 @@ use Rattle.amr_time.specs.MomentText.{IsDigit, decimal}
 use Rattle.amr_time.specs.MomentRead.{is_digit, digits_of, fraction_digits_at}
 
 pub digit_in : (c : ℕ) → is_digit c ≡ true → IsDigit c
-digit_in c h = let p = and_parts (leb 48 c) (leb c 57) h in (leb-true 48 c p.0, leb-true c 57 p.1)
+digit_in c h = grind (arith, nat_tests)
 
 if_digit : (c : ℕ) (cs : List ℕ) (b : Bool) → is_digit c ≡ b → AllByRecursion IsDigit (digits_of cs) → AllByRecursion IsDigit (cond b (c ∷ digits_of cs) [])
 if_digit c cs true h all = (digit_in c h, all)
@@ -44,6 +45,12 @@ within_nine text le =
     let q : 10 ^ length (digits_of text) ≤ 1_000_000_000 = p in
     let b = decimal_below (digits_of text) (digits_of_are text) in
     omega arith
+
+pub fraction_bound : (number count : ℕ) → number ≤ 999_999_999 → number * 10 ^ (9 - count) < 2 ^ 60
+fraction_bound number count le =
+    let p = pow-le-pow_right {n = 10} (omega arith) {i = 9 - count} {j = 9} (omega arith) in
+    let q : 10 ^ (9 - count) ≤ 1_000_000_000 = p in
+    omega (arith, mul-le-mul_left number q)
 
 -- what is computed of a fraction is what the definition gives
 pub fraction_gives : (bytes : List ℕ) (count number power : ℕ) → count ≡ length (digits_of bytes) → 1 ≤ count → count ≤ 9

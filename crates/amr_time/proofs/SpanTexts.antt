@@ -1,7 +1,8 @@
 -- The text of a duration is read as what it spells, and nothing else is read.
-use Rattle.std.proofs.Common.{◌≡◌, ℕ, ◌+◌, ◌*◌, ◌≤◌, ◌⊎◌, inl, inr, Bool, true, false, cond, not, leb, eqb, List, [], ◌∷◌, ◌++◌, length, Option, Some, None, option_map, refl, sym, ap, subst, ◌∙◌, arith, append_assoc}
-use Rattle.std.proofs.lemmas.Bool.{cases_Bool, and_parts, and_right, le-leb, leb-true, ne_eqb}
-use Rattle.std.proofs.lemmas.Option.{cond_some, same_Some}
+use Rattle.std.proofs.Common.{◌≡◌, ℕ, ◌+◌, ◌*◌, ◌≤◌, ◌⊎◌, inl, inr, Bool, true, false, cond, not, leb, eqb, List, [], ◌∷◌, ◌++◌, length, Option, Some, None, option_map, refl, sym, ap, ◌∙◌, arith, append_assoc}
+use Rattle.std.proofs.lemmas.Bool.{cases_Bool, and_parts, and_right, le-leb, leb-true}
+use Rattle.std.proofs.lemmas.Bool.Decides.{nat_tests}
+use Rattle.std.proofs.lemmas.Option.{same_Some}
 use Rattle.std.proofs.lemmas.List.{take-append-drop}
 use Rattle.std.proofs.lemmas.List.Folds.{length-prefix_len}
 use Rattle.std.proofs.lemmas.List.Sums.{take_while-cons}
@@ -31,9 +32,6 @@ some_amount : (unit : UnitOfTime) (digits : List ℕ) → 1 ≤ length digits �
 some_amount unit [] le = absurd (omega arith)
 some_amount unit (d ∷ ds) le = refl
 
-nothing_of : (n total : ℕ) → 0 * n + total ≡ total
-nothing_of n total = grind arith
-
 pub record PartsTaken (us : List UnitOfTime) (text : List ℕ) (n : ℕ) : Type 0 where
   pub amounts : List (List ℕ)
   pub digits : AllByRecursion AreDigits amounts
@@ -44,19 +42,17 @@ unit_takes : (u : UnitOfTime) (us : List UnitOfTime) (text : List ℕ) (n : ℕ)
     → cond b (option_map (λ k. decimal (digits_of text) * u.1 + k) (parts_at us (after_word (after_digits text)))) (parts_at us text) ≡ Some n → PartsTaken (u ∷ us) text n
 unit_takes u us text n false e again h =
     let t = again text n h in
-    record { amounts = [] ∷ t.amounts; digits = (tt, t.digits); text_is = t.text_is; sum = t.sum ∙ sym (nothing_of u.1 (amounts_total us t.amounts)) }
+    record { amounts = [] ∷ t.amounts; digits = (tt, t.digits); text_is = t.text_is; sum = grind arith }
 unit_takes u us text n true e again h =
     mapped (λ k. decimal (digits_of text) * u.1 + k) (parts_at us (after_word (after_digits text))) n h (λ k at sum.
     let t = again (after_word (after_digits text)) k at in
     let a = and_parts (leb 1 (length (digits_of text))) (bytes_eq (word_of (after_digits text)) u.0) e in
     let word : word_of (after_digits text) ≡ u.0 = (bytes_eq-Decides (word_of (after_digits text)) u.0).0 a.1 in
-    let after : after_digits text ≡ u.0 ++ amounts_text us t.amounts = sym (parted_word (after_digits text)) ∙ ap (λ (w : List ℕ). w ++ after_word (after_digits text)) word ∙ ap (λ (r : List ℕ). u.0 ++ r) t.text_is in
-    let whole : text ≡ (digits_of text ++ u.0) ++ amounts_text us t.amounts = sym (parted text) ∙ ap (λ (r : List ℕ). digits_of text ++ r) after ∙ sym (append_assoc (digits_of text) u.0 (amounts_text us t.amounts)) in
     let amount = some_amount u (digits_of text) (leb-true 1 (length (digits_of text)) a.0) in
     record {
       amounts = digits_of text ∷ t.amounts;
       digits = (digits_of_are text, t.digits);
-      text_is = whole ∙ ap (λ (w : List ℕ). w ++ amounts_text us t.amounts) (sym amount);
+      text_is = cc (parted text, parted_word (after_digits text), append_assoc (digits_of text) u.0 (amounts_text us t.amounts));
       sum = sym sum ∙ ap (λ (i : ℕ). decimal (digits_of text) * u.1 + i) t.sum;
     })
 
@@ -68,29 +64,23 @@ parts_take (u ∷ us) text n h = unit_takes u us text n (has_unit u text) refl (
 
 limit_takes : (o : Option ℕ) (n : ℕ) → limited o ≡ Some n → (o ≡ Some n) × (n ≤ longest_span)
 limit_takes None n h = absurd cc
-limit_takes (Some k) n h =
-    let g = cond_some (leb k longest_span) k n h in
-    rw (← g.1) (refl, leb-true k longest_span g.0)
+limit_takes (Some k) n h = grind (arith, nat_tests)
 
 not_empty : (text : List ℕ) → eqb (length text) 0 ≡ false → ¬ (text ≡ [])
-not_empty [] h e = absurd cc
-not_empty (c ∷ cs) h e = absurd cc
+not_empty text h e = grind (arith, nat_tests)
 
-amounts_take : (text : List ℕ) (n : ℕ) (b : Bool) → eqb (length text) 0 ≡ b → cond b None (limited (parts_at units text)) ≡ Some n → AreAmounts text n
-amounts_take text n true e h = absurd cc
-amounts_take text n false e h =
+span_takes : (text : List ℕ) (n : ℕ) (zero empty : Bool) → bytes_eq text (48 ∷ []) ≡ zero → eqb (length text) 0 ≡ empty
+    → cond zero (Some 0) (cond empty None (limited (parts_at units text))) ≡ Some n → ((text ≡ 48 ∷ []) × (n ≡ 0)) ⊎ AreAmounts text n
+span_takes text n true _ e f h = inl ((bytes_eq-Decides text (48 ∷ [])).0 e, sym (same_Some 0 n h))
+span_takes text n false true e f h = absurd cc
+span_takes text n false false e f h =
     let l = limit_takes (parts_at units text) n h in
     let t = parts_take units text n l.0 in
-    record { amounts = t.amounts; digits = t.digits; some = not_empty text e; text_is = t.text_is; sum = t.sum; bound = l.1 }
-
-span_takes : (text : List ℕ) (n : ℕ) (b : Bool) → bytes_eq text (48 ∷ []) ≡ b → cond b (Some 0) (cond (eqb (length text) 0) None (limited (parts_at units text))) ≡ Some n
-    → ((text ≡ 48 ∷ []) × (n ≡ 0)) ⊎ AreAmounts text n
-span_takes text n true e h = inl ((bytes_eq-Decides text (48 ∷ [])).0 e, sym (same_Some 0 n h))
-span_takes text n false e h = inr (amounts_take text n (eqb (length text) 0) refl h)
+    inr (record { amounts = t.amounts; digits = t.digits; some = not_empty text f; text_is = t.text_is; sum = t.sum; bound = l.1 })
 
 pub read_span_is_spelled : ReadSpanIsSpelled
 unfolding span_of
-read_span_is_spelled text n h = span_takes text n (bytes_eq text (48 ∷ [])) refl h
+read_span_is_spelled text n h = span_takes text n _ _ refl refl h
 
 -- ---- what is spelled
 
@@ -100,40 +90,10 @@ NoDigits letters = AllByRecursion (λ c. is_digit c ≡ false) letters
 -- the units have letters that aren't digits, and no two have the same
 abbrev AreApart : List UnitOfTime → Type 0
 AreApart [] = Unit {0}
-AreApart (u ∷ us) = (1 ≤ length u.0) × NoDigits u.0 × AllByRecursion (λ v. bytes_eq v.0 u.0 ≡ false) us × AreApart us
+AreApart (u ∷ us) = (leb 1 (length u.0) ≡ true) × NoDigits u.0 × AllByRecursion (λ v. bytes_eq v.0 u.0 ≡ false) us × AreApart us
 
 units_apart : AreApart units
-units_apart = (
-  omega arith,
-  (refl, tt),
-  (refl, (refl, (refl, (refl, (refl, (refl, tt)))))),
-  (
-    omega arith,
-    (refl, tt),
-    (refl, (refl, (refl, (refl, (refl, tt))))),
-    (
-      omega arith,
-      (refl, tt),
-      (refl, (refl, (refl, (refl, tt)))),
-      (
-        omega arith,
-        (refl, tt),
-        (refl, (refl, (refl, tt))),
-        (
-          omega arith,
-          (refl, tt),
-          (refl, (refl, tt)),
-          (
-            omega arith,
-            (refl, tt),
-            (refl, tt),
-            (omega arith, (refl, (refl, tt)), tt, tt),
-          ),
-        ),
-      ),
-    ),
-  ),
-)
+units_apart = assumption
 
 -- the end, or a digit
 abbrev DigitFirst : List ℕ → Type 0
@@ -151,8 +111,8 @@ word_again [] [] none first = refl
 word_again [] (c ∷ cs) none first = rw (take_while-cons (λ k. not (is_digit k)) c cs, first) refl
 word_again (l ∷ ls) tail none first = rw (take_while-cons (λ k. not (is_digit k)) l (ls ++ tail), none.0, word_again ls tail none.1 first) refl
 
-digits_before : (digits letters tail : List ℕ) → AreDigits digits → 1 ≤ length letters → NoDigits letters → digits_of (digits ++ (letters ++ tail)) ≡ digits
-digits_before digits [] tail all some none = absurd (omega arith)
+digits_before : (digits letters tail : List ℕ) → AreDigits digits → leb 1 (length letters) ≡ true → NoDigits letters → digits_of (digits ++ (letters ++ tail)) ≡ digits
+digits_before digits [] tail all some none = absurd cc
 digits_before digits (l ∷ ls) tail all some none = digits_again digits l (ls ++ tail) all none.0
 
 pub record AmountRead (digits letters tail text : List ℕ) : Type 0 where
@@ -160,17 +120,12 @@ pub record AmountRead (digits letters tail text : List ℕ) : Type 0 where
   pub word_is : word_of (after_digits text) ≡ letters
   pub rest_is : after_word (after_digits text) ≡ tail
 
-amount_read : (digits letters tail : List ℕ) → AreDigits digits → 1 ≤ length letters → NoDigits letters → DigitFirst tail → AmountRead digits letters tail (digits ++ (letters ++ tail))
+amount_read : (digits letters tail : List ℕ) → AreDigits digits → leb 1 (length letters) ≡ true → NoDigits letters → DigitFirst tail → AmountRead digits letters tail ((digits ++ letters) ++ tail)
 amount_read digits letters tail all some none first =
     let d = digits_before digits letters tail all some none in
     let after : after_digits (digits ++ (letters ++ tail)) ≡ letters ++ tail = rw d (drop-append_seam digits (letters ++ tail)) in
     let w = word_again letters tail none first in
-    record { digits_are = d; word_is = rw (after, w) refl; rest_is = rw (after, w) (drop-append_seam letters tail) }
-
-amount_at : (digits letters tail : List ℕ) → AreDigits digits → 1 ≤ length letters → NoDigits letters → DigitFirst tail → AmountRead digits letters tail ((digits ++ letters) ++ tail)
-amount_at digits letters tail all some none first =
-    let P : List ℕ → Type 0 = λ text. AmountRead digits letters tail text in
-    subst P (sym (append_assoc digits letters tail)) (amount_read digits letters tail all some none first)
+    rw (append_assoc digits letters tail) (record { digits_are = d; word_is = rw (after, w) refl; rest_is = rw (after, w) (drop-append_seam letters tail) })
 
 -- a unit isn't there if the text begins with another
 other_unit : (u : UnitOfTime) (us : List UnitOfTime) (amounts : List (List ℕ)) → AllByRecursion (λ v. bytes_eq v.0 u.0 ≡ false) us → AreApart us → AllByRecursion AreDigits amounts → has_unit u (amounts_text us amounts) ≡ false
@@ -180,7 +135,7 @@ other_unit u (v ∷ vs) ([] ∷ amounts) apart each all = other_unit u vs amount
 other_unit u (v ∷ vs) ((d ∷ ds) ∷ amounts) apart each all =
     let tail : List ℕ = amounts_text vs amounts in
     let text : List ℕ = (d ∷ ds ++ v.0) ++ tail in
-    let r = amount_at (d ∷ ds) v.0 tail all.0 each.0 each.1 (amounts_first vs amounts all.1) in
+    let r = amount_read (d ∷ ds) v.0 tail all.0 each.0 each.1 (amounts_first vs amounts all.1) in
     and_right (leb 1 (length (digits_of text))) (bytes_eq (word_of (after_digits text)) u.0) (rw r.word_is apart.0)
 
 nothing_there : (us : List UnitOfTime) → parts_at us [] ≡ Some 0
@@ -199,10 +154,10 @@ unfolding parts_at
 parts_again [] amounts each all = refl
 parts_again (u ∷ us) [] each all = nothing_there us
 parts_again (u ∷ us) ([] ∷ amounts) each all =
-    rw (other_unit u us amounts each.2 each.3 all.1, nothing_of u.1 (amounts_total us amounts)) (parts_again us amounts each.3 all.1)
+    grind (arith, other_unit u us amounts each.2 each.3 all.1, parts_again us amounts each.3 all.1)
 parts_again (u ∷ us) ((d ∷ ds) ∷ amounts) each all =
     let tail : List ℕ = amounts_text us amounts in
-    let r = amount_at (d ∷ ds) u.0 tail all.0 each.0 each.1 (amounts_first us amounts all.1) in
+    let r = amount_read (d ∷ ds) u.0 tail all.0 each.0 each.1 (amounts_first us amounts all.1) in
     unit_again u us (d ∷ ds) tail ((d ∷ ds ++ u.0) ++ tail) (amounts_total us amounts) r (omega arith) (parts_again us amounts each.3 all.1)
 
 zero_apart : (amounts : List (List ℕ)) → AllByRecursion AreDigits amounts → 48 ∷ [] ≡ amounts_text units amounts → ⊥
@@ -213,7 +168,7 @@ zero_apart amounts all e =
 
 empty_is : (text : List ℕ) → ¬ (text ≡ []) → eqb (length text) 0 ≡ false
 empty_is [] some = absurd (some refl)
-empty_is (c ∷ cs) some = ne_eqb (length (c ∷ cs)) 0 (λ e. omega arith)
+empty_is (c ∷ cs) some = grind (arith, nat_tests)
 
 pub spelled_span_is_read : SpelledSpanIsRead
 unfolding span_of

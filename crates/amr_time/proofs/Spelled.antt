@@ -1,24 +1,23 @@
 -- A moment's text that is spelled by its parts is read.
-use Rattle.std.proofs.Common.{◌≡◌, ℕ, ◌+◌, ◌-◌, ◌*◌, ◌/◌, ◌%◌, ◌<◌, ◌≤◌, ◌⊎◌, inl, inr, true, false, leb, eqb, List, [], ◌∷◌, ◌++◌, length, Some, pos, refl, arith}
-use Rattle.std.proofs.lemmas.Bool.{and_from, le-leb, lt-ltb}
+use Rattle.std.proofs.Common.{◌≡◌, ℕ, ◌+◌, ◌-◌, ◌*◌, ◌/◌, ◌%◌, ◌<◌, ◌≤◌, ◌⊎◌, inl, inr, true, false, eqb, List, [], ◌∷◌, ◌++◌, length, Some, pos, refl, arith}
+use Rattle.std.proofs.lemmas.Bool.{le-leb, lt-ltb}
+use Rattle.std.proofs.lemmas.Bool.Decides.{nat_tests}
 use Rattle.std.proofs.Math.Seq.{drop-append_seam}
 use Rattle.std.specs.List.{AllByRecursion}
 use Rattle.std.proofs.lemmas.List.Sums.{take_while-cons}
 use Rattle.jiff_core.specs.Calendar.{days_in_month, days_from_civil}
 use Rattle.amr_time.specs.Time.{latest_read}
 use Rattle.amr_time.specs.MomentText.{IsDigit, digit, two_digits, four_digits, date_text, time_text, fraction_text, fraction_nanoseconds, zone_text, Zone, Utc, Ahead, Behind, IsOffset, offset_minutes}
-use Rattle.amr_time.specs.MomentRead.{is_digit, two_at, four_at, is_date, day_number, day_at, minutes_at, seconds_at, digits_of, fraction_digits_at, fraction_at, offset_at, time_mark_at, moment_at}
+use Rattle.amr_time.specs.MomentRead.{is_digit, two_at, four_at, day_number, day_at, minutes_at, seconds_at, digits_of, fraction_at, offset_at, time_mark_at, moment_at}
 use Rattle.amr_time.specs.Laws.{SpelledIsRead}
 
 pub is_one : (c : ℕ) → 48 ≤ c → c ≤ 57 → is_digit c ≡ true
-is_one c low high = and_from (leb 48 c) (leb c 57) (le-leb 48 c low) (le-leb c 57 high)
+is_one c low high = grind (arith, nat_tests)
 
 two_again : (n : ℕ) (rest : List ℕ) → n < 100 → two_at (two_digits n ++ rest) ≡ Some (n, rest)
 two_again n rest lt =
-    let one = is_one (digit (n / 10)) (omega arith) (omega arith) in
-    let other = is_one (digit n) (omega arith) (omega arith) in
     let e : (digit (n / 10) - 48) * 10 + (digit n - 48) ≡ n = omega arith in
-    rw (one, other, e) refl
+    grind (arith, nat_tests)
 
 four_again : (n : ℕ) (rest : List ℕ) → n < 10000 → four_at (four_digits n ++ rest) ≡ Some (n, rest)
 unfolding four_at
@@ -28,9 +27,7 @@ four_again n rest lt =
 
 number_again : (y m d : ℕ) → (1 ≤ m) × (m ≤ 12) → (1 ≤ d) × (d ≤ days_in_month (pos y) m) → day_number y m d ≡ Some (days_from_civil (pos y) m d)
 unfolding day_number
-number_again y m d mh dh =
-    let yes : is_date y m d ≡ true = and_from _ _ (and_from _ _ (and_from _ _ (le-leb 1 m mh.0) (le-leb m 12 mh.1)) (le-leb 1 d dh.0)) (le-leb d (days_in_month (pos y) m) dh.1) in
-    rw yes refl
+number_again y m d mh dh = grind (arith, nat_tests)
 
 days_few : (y m : ℕ) → days_in_month (pos y) m ≤ 31
 days_few y m = grind arith
@@ -66,15 +63,11 @@ digits_again [] c cs all stops = rw (take_while-cons is_digit c cs, stops) refl
 digits_again (d ∷ ds) c cs all stops =
     rw (take_while-cons is_digit d (ds ++ c ∷ cs), is_one d all.0.0 all.0.1, digits_again ds c cs all.1 stops) refl
 
-fraction_digits_again : (digits : List ℕ) (c : ℕ) (cs : List ℕ) → 1 ≤ length digits → length digits ≤ 9 → AllByRecursion IsDigit digits → is_digit c ≡ false
-    → fraction_digits_at (digits ++ c ∷ cs) ≡ Some (fraction_nanoseconds digits, c ∷ cs)
-fraction_digits_again digits c cs some few all stops =
-    rw (digits_again digits c cs all stops, le-leb 1 (length digits) some, le-leb (length digits) 9 few, drop-append_seam digits (c ∷ cs)) refl
-
 fraction_again : (digits : List ℕ) (c : ℕ) (cs : List ℕ) → (length digits ≤ 9) × AllByRecursion IsDigit digits → is_digit c ≡ false → eqb c 46 ≡ false
     → fraction_at (fraction_text digits ++ c ∷ cs) ≡ Some (fraction_nanoseconds digits, c ∷ cs)
 fraction_again [] c cs all stops point = rw point refl
-fraction_again (d ∷ ds) c cs all stops point = fraction_digits_again (d ∷ ds) c cs (omega arith) all.0 all.1 stops
+fraction_again (d ∷ ds) c cs all stops point =
+    rw (digits_again (d ∷ ds) c cs all.1 stops, le-leb 1 (length (d ∷ ds)) (omega arith), le-leb (length (d ∷ ds)) 9 all.0, drop-append_seam (d ∷ ds) (c ∷ cs)) refl
 
 offset_again : (mark : ℕ) (zone : Zone) → IsOffset zone → (mark ≡ 90) ⊎ (mark ≡ 122) → offset_at (zone_text mark zone) ≡ Some (offset_minutes zone, [])
 unfolding offset_at
@@ -84,21 +77,12 @@ offset_again mark (Ahead h m) are e = rw (minutes_again h m [] are.0 are.1) refl
 offset_again mark (Behind h m) are e = rw (minutes_again h m [] are.0 are.1) refl
 
 -- a zone begins with a byte that isn't a digit or a point
-pub record Front (text : List ℕ) : Type 0 where
-  pub first : ℕ
-  pub rest : List ℕ
-  pub is : text ≡ first ∷ rest
-  pub stops : is_digit first ≡ false
-  pub point : eqb first 46 ≡ false
-
-zone_front : (mark : ℕ) (zone : Zone) → (mark ≡ 90) ⊎ (mark ≡ 122) → Front (zone_text mark zone)
-zone_front mark Utc (inl e) = record { first = mark; rest = []; is = refl; stops = rw e refl; point = rw e refl }
-zone_front mark Utc (inr e) = record { first = mark; rest = []; is = refl; stops = rw e refl; point = rw e refl }
-zone_front mark (Ahead h m) e = record { first = 43; rest = two_digits h ++ 58 ∷ two_digits m; is = refl; stops = refl; point = refl }
-zone_front mark (Behind h m) e = record { first = 45; rest = two_digits h ++ 58 ∷ two_digits m; is = refl; stops = refl; point = refl }
-
-fraction_before : (digits zone : List ℕ) → Front zone → (length digits ≤ 9) × AllByRecursion IsDigit digits → fraction_at (fraction_text digits ++ zone) ≡ Some (fraction_nanoseconds digits, zone)
-fraction_before digits zone front all = rw front.is (fraction_again digits front.first front.rest all front.stops front.point)
+fraction_before : (digits : List ℕ) (mark : ℕ) (zone : Zone) → (mark ≡ 90) ⊎ (mark ≡ 122) → (length digits ≤ 9) × AllByRecursion IsDigit digits
+    → fraction_at (fraction_text digits ++ zone_text mark zone) ≡ Some (fraction_nanoseconds digits, zone_text mark zone)
+fraction_before digits mark Utc (inl e) all = rw e (fraction_again digits 90 [] all refl refl)
+fraction_before digits mark Utc (inr e) all = rw e (fraction_again digits 122 [] all refl refl)
+fraction_before digits mark (Ahead h m) e all = fraction_again digits 43 (two_digits h ++ 58 ∷ two_digits m) all refl refl
+fraction_before digits mark (Behind h m) e all = fraction_again digits 45 (two_digits h ++ 58 ∷ two_digits m) all refl refl
 
 pub spelled_is_read : SpelledIsRead
 unfolding moment_at
@@ -111,7 +95,7 @@ spelled_is_read text moment (p, a, e, v, last) =
       day_again p.year p.month p.day (p.time_mark ∷ r₂) a.year a.month a.day,
       time_mark_again p.time_mark r₂ a.marks.0,
       seconds_again p.hours p.minutes p.seconds r₃ a.clock,
-      fraction_before p.fraction zone (zone_front p.utc_mark p.zone a.marks.1) a.fraction,
+      fraction_before p.fraction p.utc_mark p.zone a.marks.1 a.fraction,
       offset_again p.utc_mark p.zone a.zone a.marks.1,
       ← v,
       le-leb moment latest_read last,

@@ -1,154 +1,60 @@
 -- What is read of a part of a moment's text is what the text spells there.
-use Rattle.std.proofs.Common.{◌≡◌, ℕ, ◌+◌, ◌-◌, ◌*◌, ◌/◌, ◌%◌, ◌<◌, ◌≤◌, ◌⊎◌, inl, inr, Bool, true, false, cond, leb, ltb, eqb, ◌&&◌, ◌||◌, List, [], ◌∷◌, ◌++◌, length, drop, Option, Some, None, ℤ, pos, negsuc, ◌+ℤ◌, ◌-ℤ◌, ◌*ℤ◌, refl, sym, ap, ◌∙◌, arith, append-nil}
-use Rattle.std.proofs.lemmas.Bool.{and_parts, or_cases, leb-true, ltb-true, lt-ltb, eqb-true}
+use Rattle.std.proofs.Common.{◌≡◌, ℕ, ◌+◌, ◌*◌, ◌/◌, ◌%◌, ◌<◌, ◌≤◌, ◌⊎◌, inl, Bool, true, false, cond, ltb, eqb, ◌||◌, List, [], ◌∷◌, ◌++◌, length, drop, Option, Some, None, ℤ, pos, negsuc, ◌+ℤ◌, ◌-ℤ◌, ◌*ℤ◌, refl, sym, ap, ◌∙◌, arith, append-nil}
+use Rattle.std.proofs.lemmas.Bool.{eqb-true}
+use Rattle.std.proofs.lemmas.Bool.Decides.{nat_tests}
 use Rattle.std.proofs.lemmas.Option.{cond_some, same_Some}
 use Rattle.std.proofs.lemmas.List.{take-append-drop}
 use Rattle.std.proofs.lemmas.List.Folds.{length-prefix_len}
 use Rattle.std.specs.List.{AllByRecursion, prefix_len}
 use Rattle.jiff_core.specs.Calendar.{days_in_month, days_from_civil}
 use Rattle.amr_time.specs.Time.{second, latest_read}
-use Rattle.amr_time.specs.MomentText.{IsDigit, digit, two_digits, four_digits, date_text, time_text, fraction_text, fraction_nanoseconds, zone_text, Zone, Utc, Ahead, Behind, IsOffset, offset_minutes}
+use Rattle.amr_time.specs.MomentText.{IsDigit, two_digits, four_digits, time_text, fraction_text, fraction_nanoseconds, zone_text, Zone, Utc, Ahead, Behind, IsOffset, offset_minutes}
 use Rattle.amr_time.specs.MomentRead.{◌>>=◌, is_digit, mark_at, two_at, four_at, is_date, day_number, day_at, minutes_at, seconds_at, digits_of, fraction_digits_at, fraction_at, offset_at, time_mark_at, in_range, moment_at}
 use Rattle.amr_time.specs.Laws.{ReadIsSpelled}
-use Rattle.amr_time.proofs.Decimals.{digit_in, digits_of_are}
+use Rattle.amr_time.proofs.Decimals.{digits_of_are}
 
--- a step that gives a value, and what the next step makes of it
-given : {A B P : Type 0} (m : Option A) (f : A → Option B) (y : B) → (m >>= f) ≡ Some y → ((x : A) → m ≡ Some x → f x ≡ Some y → P) → P
-given None f y h then = absurd cc
-given (Some x) f y h then = then x refl h
+-- a step that gives a value, what is known of the value, and what the next step makes of it
+given : {A B P : Type 0} {T : A → Type 0} (m : Option A) → ((x : A) → m ≡ Some x → T x) → (f : A → Option B) (y : B) → (m >>= f) ≡ Some y → ((x : A) → T x → f x ≡ Some y → P) → P
+given None takes f y h then = absurd cc
+given (Some x) takes f y h then = then x (takes x refl) h
 
 mark_takes : (k : ℕ) (bytes rest : List ℕ) → mark_at k bytes ≡ Some rest → bytes ≡ k ∷ rest
 mark_takes k [] rest h = absurd cc
-mark_takes k (c ∷ cs) rest h =
-    let g = cond_some (eqb c k) cs rest h in
-    rw (eqb-true c k g.0, g.1) refl
-
-two_is : (a b : ℕ) → IsDigit a → IsDigit b → (a ∷ b ∷ [] ≡ two_digits ((a - 48) * 10 + (b - 48))) × ((a - 48) * 10 + (b - 48) < 100)
-two_is a b x y =
-    let n : ℕ = (a - 48) * 10 + (b - 48) in
-    let p : a ≡ digit (n / 10) = omega arith in
-    let q : b ≡ digit n = omega arith in
-    (cc, omega arith)
+mark_takes k (c ∷ cs) rest h = grind (arith, nat_tests)
 
 two_takes : (bytes : List ℕ) (read : ℕ × List ℕ) → two_at bytes ≡ Some read → (bytes ≡ two_digits read.0 ++ read.1) × (read.0 < 100)
 two_takes [] read h = absurd cc
 two_takes (a ∷ []) read h = absurd cc
-two_takes (a ∷ b ∷ bytes) read h =
-    let g = cond_some (is_digit a && is_digit b) ((a - 48) * 10 + (b - 48), bytes) read h in
-    let t = and_parts (is_digit a) (is_digit b) g.0 in
-    let p = two_is a b (digit_in a t.0) (digit_in b t.1) in
-    rw (← g.1) (ap (λ (ds : List ℕ). ds ++ bytes) p.0, p.1)
-
-four_is : (high low : ℕ) → high < 100 → low < 100 → ((high * 100 + low) / 100 ≡ high) × ((high * 100 + low) % 100 ≡ low) × (high * 100 + low < 10000)
-four_is high low h l = (omega arith, omega arith, omega arith)
+two_takes (a ∷ b ∷ bytes) read h = grind (arith, nat_tests)
 
 four_takes : (bytes : List ℕ) (read : ℕ × List ℕ) → four_at bytes ≡ Some read → (bytes ≡ four_digits read.0 ++ read.1) × (read.0 < 10000)
 unfolding four_at
 four_takes bytes read h =
-    given (two_at bytes) _ read h (λ high e1 h1.
-    given (two_at high.1) _ read h1 (λ low e2 h2.
-    let x = two_takes bytes high e1 in
-    let y = two_takes high.1 low e2 in
-    let n = four_is high.0 low.0 x.1 y.1 in
-    rw (← same_Some (high.0 * 100 + low.0, low.1) read h2, n.0, n.1, x.0, y.0) (refl, n.2)))
+    given _ (two_takes bytes) _ read h (λ high x h1.
+    given _ (two_takes high.1) _ read h1 (λ low y h2.
+    let n : ((high.0 * 100 + low.0) / 100 ≡ high.0) × ((high.0 * 100 + low.0) % 100 ≡ low.0) = (omega arith, omega arith) in
+    rw (← same_Some (high.0 * 100 + low.0, low.1) read h2, n.0, n.1, x.0, y.0) (refl, omega arith)))
 
-pub record DayTaken (bytes : List ℕ) (number : ℤ) (rest : List ℕ) : Type 0 where
-  pub year : ℕ
-  pub month : ℕ
-  pub day : ℕ
-  pub text : bytes ≡ date_text year month day ++ rest
-  pub year_in : year < 10000
-  pub month_in : (1 ≤ month) × (month ≤ 12)
-  pub day_in : (1 ≤ day) × (day ≤ days_in_month (pos year) month)
-  pub value : number ≡ days_from_civil (pos year) month day
-
-number_takes : (y m d : ℕ) (z : ℤ) → day_number y m d ≡ Some z → (is_date y m d ≡ true) × (days_from_civil (pos y) m d ≡ z)
-unfolding day_number
-number_takes y m d z h = cond_some (is_date y m d) (days_from_civil (pos y) m d) z h
-
-day_takes : (bytes : List ℕ) (read : ℤ × List ℕ) → day_at bytes ≡ Some read → DayTaken bytes read.0 read.1
-unfolding day_at
-day_takes bytes read h =
-    given (four_at bytes) _ read h (λ year e1 h1.
-    given (mark_at 45 year.1) _ read h1 (λ dash e2 h2.
-    given (two_at dash) _ read h2 (λ month e3 h3.
-    given (mark_at 45 month.1) _ read h3 (λ dash2 e4 h4.
-    given (two_at dash2) _ read h4 (λ day e5 h5.
-    given (day_number year.0 month.0 day.0) _ read h5 (λ number e6 h6.
-    let x = four_takes bytes year e1 in
-    let p = mark_takes 45 year.1 dash e2 in
-    let y = two_takes dash month e3 in
-    let q = mark_takes 45 month.1 dash2 e4 in
-    let z = two_takes dash2 day e5 in
-    let n = number_takes year.0 month.0 day.0 number e6 in
-    let a = and_parts (leb 1 month.0 && leb month.0 12 && leb 1 day.0) (leb day.0 (days_in_month (pos year.0) month.0)) n.0 in
-    let b = and_parts (leb 1 month.0 && leb month.0 12) (leb 1 day.0) a.0 in
-    let e = and_parts (leb 1 month.0) (leb month.0 12) b.0 in
-    rw (← same_Some (number, day.1) read h6) (record {
-      year = year.0;
-      month = month.0;
-      day = day.0;
-      text = rw (x.0, p, y.0, q, z.0) refl;
-      year_in = x.1;
-      month_in = (leb-true 1 month.0 e.0, leb-true month.0 12 e.1);
-      day_in = (leb-true 1 day.0 b.1, leb-true day.0 (days_in_month (pos year.0) month.0) a.1);
-      value = sym n.1;
-    })))))))
-
-pub record MinutesTaken (bytes : List ℕ) (total : ℕ) (rest : List ℕ) : Type 0 where
-  pub hours : ℕ
-  pub minutes : ℕ
-  pub text : bytes ≡ two_digits hours ++ 58 ∷ two_digits minutes ++ rest
-  pub hours_in : hours < 24
-  pub minutes_in : minutes < 60
-  pub value : total ≡ hours * 60 + minutes
-
-minutes_takes : (bytes : List ℕ) (read : ℕ × List ℕ) → minutes_at bytes ≡ Some read → MinutesTaken bytes read.0 read.1
+-- hours and minutes
+minutes_takes : (bytes : List ℕ) (read : ℕ × List ℕ) → minutes_at bytes ≡ Some read → (bytes ≡ two_digits (read.0 / 60) ++ 58 ∷ two_digits (read.0 % 60) ++ read.1) × (read.0 < 1440)
 unfolding minutes_at
 minutes_takes bytes read h =
-    given (two_at bytes) _ read h (λ hour e1 h1.
-    given (mark_at 58 hour.1) _ read h1 (λ colon e2 h2.
-    given (two_at colon) _ read h2 (λ minute e3 h3.
-    let x = two_takes bytes hour e1 in
-    let p = mark_takes 58 hour.1 colon e2 in
-    let y = two_takes colon minute e3 in
-    let g = cond_some (ltb hour.0 24 && ltb minute.0 60) (hour.0 * 60 + minute.0, minute.1) read h3 in
-    let a = and_parts (ltb hour.0 24) (ltb minute.0 60) g.0 in
-    rw (← g.1) (record {
-      hours = hour.0;
-      minutes = minute.0;
-      text = rw (x.0, p, y.0) refl;
-      hours_in = ltb-true hour.0 24 a.0;
-      minutes_in = ltb-true minute.0 60 a.1;
-      value = refl;
-    }))))
+    given _ (two_takes bytes) _ read h (λ hour x h1.
+    given _ (mark_takes 58 hour.1) _ read h1 (λ colon p h2.
+    given _ (two_takes colon) _ read h2 (λ minute y h3.
+    let g : ((hour.0 * 60 + minute.0, minute.1) ≡ read) × (hour.0 < 24) × (minute.0 < 60) = grind (arith, nat_tests) in
+    let n : ((hour.0 * 60 + minute.0) / 60 ≡ hour.0) × ((hour.0 * 60 + minute.0) % 60 ≡ minute.0) = (omega arith, omega arith) in
+    rw (← g.0, n.0, n.1, x.0, p, y.0) (refl, omega arith))))
 
-pub record TimeTaken (bytes : List ℕ) (total : ℕ) (rest : List ℕ) : Type 0 where
-  pub hours : ℕ
-  pub minutes : ℕ
-  pub seconds : ℕ
-  pub text : bytes ≡ time_text hours minutes seconds ++ rest
-  pub clock : (hours < 24) × (minutes < 60) × (seconds < 60)
-  pub value : total ≡ (hours * 60 + minutes) * 60 + seconds
-
-seconds_takes : (bytes : List ℕ) (read : ℕ × List ℕ) → seconds_at bytes ≡ Some read → TimeTaken bytes read.0 read.1
+seconds_takes : (bytes : List ℕ) (read : ℕ × List ℕ) → seconds_at bytes ≡ Some read → (bytes ≡ time_text (read.0 / 3600) (read.0 / 60 % 60) (read.0 % 60) ++ read.1) × (read.0 < 86400)
 unfolding seconds_at
 seconds_takes bytes read h =
-    given (minutes_at bytes) _ read h (λ minutes e1 h1.
-    given (mark_at 58 minutes.1) _ read h1 (λ colon e2 h2.
-    given (two_at colon) _ read h2 (λ second e3 h3.
-    let x = minutes_takes bytes minutes e1 in
-    let p = mark_takes 58 minutes.1 colon e2 in
-    let y = two_takes colon second e3 in
-    let g = cond_some (ltb second.0 60) (minutes.0 * 60 + second.0, second.1) read h3 in
-    rw (← g.1) (record {
-      hours = x.hours;
-      minutes = x.minutes;
-      seconds = second.0;
-      text = x.text ∙ ap (λ (r : List ℕ). two_digits x.hours ++ 58 ∷ two_digits x.minutes ++ r) (p ∙ ap (λ (r : List ℕ). 58 ∷ r) y.0);
-      clock = (x.hours_in, x.minutes_in, ltb-true second.0 60 g.0);
-      value = ap (λ (n : ℕ). n * 60 + second.0) x.value;
-    }))))
+    given _ (minutes_takes bytes) _ read h (λ minutes x h1.
+    given _ (mark_takes 58 minutes.1) _ read h1 (λ colon p h2.
+    given _ (two_takes colon) _ read h2 (λ second y h3.
+    let g : ((minutes.0 * 60 + second.0, second.1) ≡ read) × (second.0 < 60) = grind (arith, nat_tests) in
+    let n : ((minutes.0 * 60 + second.0) / 3600 ≡ minutes.0 / 60) × ((minutes.0 * 60 + second.0) / 60 ≡ minutes.0) × ((minutes.0 * 60 + second.0) % 60 ≡ second.0) = (omega arith, omega arith, omega arith) in
+    rw (← g.0, n.0, n.1, n.2, x.0, p, y.0) (refl, omega arith))))
 
 pub record FractionTaken (bytes : List ℕ) (nanoseconds : ℕ) (rest : List ℕ) : Type 0 where
   pub digits : List ℕ
@@ -168,12 +74,11 @@ after_point : (c : ℕ) (cs : List ℕ) (b : Bool) (read : ℕ × List ℕ) → 
 after_point c cs false read e h = rw (← same_Some (0, c ∷ cs) read h) (record { digits = []; text = refl; few = omega arith; are = tt; value = refl })
 after_point c cs true read e h =
     let digits : List ℕ = digits_of cs in
-    let g = cond_some (leb 1 (length digits) && leb (length digits) 9) (fraction_nanoseconds digits, drop (length digits) cs) read h in
-    let a = and_parts (leb 1 (length digits)) (leb (length digits) 9) g.0 in
-    rw (← g.1) (record {
+    let g : (1 ≤ length digits) × (length digits ≤ 9) × ((fraction_nanoseconds digits, drop (length digits) cs) ≡ read) = grind (arith, nat_tests) in
+    rw (← g.2) (record {
       digits = digits;
-      text = rw (some_fraction digits (leb-true 1 (length digits) a.0), eqb-true c 46 e) (ap (λ (ds : List ℕ). 46 ∷ ds) (sym (parted cs)));
-      few = leb-true (length digits) 9 a.1;
+      text = rw (some_fraction digits g.0, eqb-true c 46 e) (ap (λ (ds : List ℕ). 46 ∷ ds) (sym (parted cs)));
+      few = g.1;
       are = digits_of_are cs;
       value = refl;
     })
@@ -182,84 +87,50 @@ fraction_takes : (bytes : List ℕ) (read : ℕ × List ℕ) → fraction_at byt
 fraction_takes [] read h = rw (← same_Some (0, []) read h) (record { digits = []; text = refl; few = omega arith; are = tt; value = refl })
 fraction_takes (c ∷ cs) read h = after_point c cs (eqb c 46) read refl h
 
-pub record OffsetTaken (bytes : List ℕ) (minutes : ℤ) (rest : List ℕ) : Type 0 where
-  pub zone : Zone
-  pub mark : ℕ
-  pub text : bytes ≡ zone_text mark zone ++ rest
-  pub are : IsOffset zone
-  pub marks : (mark ≡ 90) ⊎ (mark ≡ 122)
-  pub value : minutes ≡ offset_minutes zone
+-- the zone and the mark of UTC
+abbrev OffsetTaken : List ℕ → ℤ → List ℕ → Type 0
+OffsetTaken bytes minutes rest =
+    (zone : Zone) × (mark : ℕ) × (bytes ≡ zone_text mark zone ++ rest) × IsOffset zone × ((mark ≡ 90) ⊎ (mark ≡ 122)) × (minutes ≡ offset_minutes zone)
 
 either : (c k l : ℕ) → (eqb c k || eqb c l) ≡ true → (c ≡ k) ⊎ (c ≡ l)
-either c k l h = elim (or_cases (eqb c k) (eqb c l) h) [ inl x ↦ inl (eqb-true c k x) | inr y ↦ inr (eqb-true c l y) ]
+either c k l h = grind (arith, nat_tests)
 
-behind : (c : ℕ) (cs : List ℕ) (b : Bool) (read : ℤ × List ℕ) → eqb c 45 ≡ b
-    → cond b (minutes_at cs >>= λ m. Some (pos 0 -ℤ pos m.0, m.1)) None ≡ Some read → OffsetTaken (c ∷ cs) read.0 read.1
-behind c cs false read e h = absurd cc
-behind c cs true read e h =
-    given (minutes_at cs) _ read h (λ m e1 h1.
-    let x = minutes_takes cs m e1 in
-    rw (← same_Some (pos 0 -ℤ pos m.0, m.1) read h1) (record {
-      zone = Behind x.hours x.minutes;
-      mark = 90;
-      text = rw (eqb-true c 45 e) (ap (λ (ds : List ℕ). 45 ∷ ds) x.text);
-      are = (x.hours_in, x.minutes_in);
-      marks = inl refl;
-      value = ap (λ (n : ℕ). pos 0 -ℤ pos n) x.value;
-    }))
+hours_and_minutes : (m : ℕ) → m < 1440 → (m / 60 * 60 + m % 60 ≡ m) × (m / 60 < 24) × (m % 60 < 60)
+hours_and_minutes m lt = (omega arith, omega arith, omega arith)
 
-ahead : (c : ℕ) (cs : List ℕ) (b : Bool) (read : ℤ × List ℕ) → eqb c 43 ≡ b
-    → cond b (minutes_at cs >>= λ m. Some (pos m.0, m.1)) (cond (eqb c 45) (minutes_at cs >>= λ m. Some (pos 0 -ℤ pos m.0, m.1)) None) ≡ Some read → OffsetTaken (c ∷ cs) read.0 read.1
-ahead c cs false read e h = behind c cs (eqb c 45) read refl h
-ahead c cs true read e h =
-    given (minutes_at cs) _ read h (λ m e1 h1.
-    let x = minutes_takes cs m e1 in
-    rw (← same_Some (pos m.0, m.1) read h1) (record {
-      zone = Ahead x.hours x.minutes;
-      mark = 90;
-      text = rw (eqb-true c 43 e) (ap (λ (ds : List ℕ). 43 ∷ ds) x.text);
-      are = (x.hours_in, x.minutes_in);
-      marks = inl refl;
-      value = ap (λ (n : ℕ). pos n) x.value;
-    }))
-
-at_utc : (c : ℕ) (cs : List ℕ) (b : Bool) (read : ℤ × List ℕ) → (eqb c 90 || eqb c 122) ≡ b
-    → cond b (Some (pos 0, cs)) (cond (eqb c 43) (minutes_at cs >>= λ m. Some (pos m.0, m.1)) (cond (eqb c 45) (minutes_at cs >>= λ m. Some (pos 0 -ℤ pos m.0, m.1)) None)) ≡ Some read → OffsetTaken (c ∷ cs) read.0 read.1
-at_utc c cs false read e h = ahead c cs (eqb c 43) read refl h
-at_utc c cs true read e h = rw (← same_Some (pos 0, cs) read h) (record { zone = Utc; mark = c; text = refl; are = tt; marks = either c 90 122 e; value = refl })
+zone_takes : (c : ℕ) (cs : List ℕ) (read : ℤ × List ℕ) (utc ahead behind : Bool) → (eqb c 90 || eqb c 122) ≡ utc → eqb c 43 ≡ ahead → eqb c 45 ≡ behind
+    → cond utc (Some (pos 0, cs)) (cond ahead (minutes_at cs >>= λ m. Some (pos m.0, m.1)) (cond behind (minutes_at cs >>= λ m. Some (pos 0 -ℤ pos m.0, m.1)) None)) ≡ Some read
+    → OffsetTaken (c ∷ cs) read.0 read.1
+zone_takes c cs read true _ _ e f g h = rw (← same_Some (pos 0, cs) read h) (Utc, c, refl, tt, either c 90 122 e, refl)
+zone_takes c cs read false true _ e f g h =
+    given _ (minutes_takes cs) _ read h (λ m x h1.
+    let n = hours_and_minutes m.0 x.1 in
+    rw (← same_Some (pos m.0, m.1) read h1) (Ahead (m.0 / 60) (m.0 % 60), 90, rw (eqb-true c 43 f) (ap (λ (ds : List ℕ). 43 ∷ ds) x.0), (n.1, n.2), inl refl, rw n.0 refl))
+zone_takes c cs read false false true e f g h =
+    given _ (minutes_takes cs) _ read h (λ m x h1.
+    let n = hours_and_minutes m.0 x.1 in
+    rw (← same_Some (pos 0 -ℤ pos m.0, m.1) read h1) (Behind (m.0 / 60) (m.0 % 60), 90, rw (eqb-true c 45 g) (ap (λ (ds : List ℕ). 45 ∷ ds) x.0), (n.1, n.2), inl refl, rw n.0 refl))
+zone_takes c cs read false false false e f g h = absurd cc
 
 offset_takes : (bytes : List ℕ) (read : ℤ × List ℕ) → offset_at bytes ≡ Some read → OffsetTaken bytes read.0 read.1
 unfolding offset_at
 offset_takes [] read h = absurd cc
-offset_takes (c ∷ cs) read h = at_utc c cs (eqb c 90 || eqb c 122) read refl h
+offset_takes (c ∷ cs) read h = zone_takes c cs read _ _ _ refl refl refl h
 
-pub record MarkTaken (bytes rest : List ℕ) : Type 0 where
-  pub mark : ℕ
-  pub text : bytes ≡ mark ∷ rest
-  pub marks : (mark ≡ 84) ⊎ (mark ≡ 116)
-
-time_mark_takes : (bytes rest : List ℕ) → time_mark_at bytes ≡ Some rest → MarkTaken bytes rest
+time_mark_takes : (bytes rest : List ℕ) → time_mark_at bytes ≡ Some rest → (mark : ℕ) × (bytes ≡ mark ∷ rest) × ((mark ≡ 84) ⊎ (mark ≡ 116))
 time_mark_takes [] rest h = absurd cc
-time_mark_takes (c ∷ cs) rest h =
-    let g = cond_some (eqb c 84 || eqb c 116) cs rest h in
-    record { mark = c; text = ap (λ (ds : List ℕ). c ∷ ds) g.1; marks = either c 84 116 g.0 }
+time_mark_takes (c ∷ cs) rest h = (c, grind (arith, nat_tests), grind (arith, nat_tests))
 
 range_takes : (z : ℤ) (n : ℕ) → in_range z ≡ Some n → (z ≡ pos n) × (n ≤ latest_read)
-range_takes (pos k) n h =
-    let g = cond_some (leb k latest_read) k n h in
-    rw (← g.1) (refl, leb-true k latest_read g.0)
+range_takes (pos k) n h = grind (arith, nat_tests)
 range_takes (negsuc k) n h = absurd cc
 
 nothing_left : (rest : List ℕ) (o : Option ℕ) (n : ℕ) → cond (ltb 0 (length rest)) None o ≡ Some n → (rest ≡ []) × (o ≡ Some n)
 nothing_left [] o n h = (refl, h)
-nothing_left (c ∷ cs) o n h =
-    let e = rw (lt-ltb 0 (length (c ∷ cs)) (omega arith)) at h in
-    absurd cc
+nothing_left (c ∷ cs) o n h = absurd (grind (arith, nat_tests))
 
-joined : (text r₁ r₂ r₃ r₄ r₅ : List ℕ) (year month day mark hours minutes seconds : ℕ) (fraction zone : List ℕ) → text ≡ date_text year month day ++ r₁ → r₁ ≡ mark ∷ r₂ → r₂ ≡ time_text hours minutes seconds ++ r₃ → r₃ ≡ fraction ++ r₄ → r₄ ≡ zone ++ r₅ → r₅ ≡ []
-    → text ≡ date_text year month day ++ mark ∷ time_text hours minutes seconds ++ fraction ++ zone
-joined text r₁ r₂ r₃ r₄ r₅ year month day mark hours minutes seconds fraction zone e₁ e₂ e₃ e₄ e₅ e₆ =
-    rw (e₁, e₂, e₃, e₄, e₅, e₆, append-nil zone) refl
+is_dated : (year month day : ℕ) → is_date year month day ≡ true → ((1 ≤ month) × (month ≤ 12)) × ((1 ≤ day) × (day ≤ days_in_month (pos year) month))
+is_dated year month day h = grind (arith, nat_tests)
 
 valued : (day day' offset offset' : ℤ) (clock clock' fraction fraction' moment : ℕ) → day ≡ day' → clock ≡ clock' → fraction ≡ fraction' → offset ≡ offset'
     → (day *ℤ pos 86_400_000_000_000 +ℤ pos (clock * second + fraction) -ℤ offset *ℤ pos 60_000_000_000) ≡ pos moment
@@ -267,42 +138,45 @@ valued : (day day' offset offset' : ℤ) (clock clock' fraction fraction' moment
 valued day day' offset offset' clock clock' fraction fraction' moment d c f o e = cc
 
 pub read_is_spelled : ReadIsSpelled
-unfolding moment_at
+unfolding moment_at day_at day_number
 read_is_spelled text moment h =
-    given (day_at text) _ moment h (λ day e1 h1.
-    given (time_mark_at day.1) _ moment h1 (λ mark e2 h2.
-    given (seconds_at mark) _ moment h2 (λ seconds e3 h3.
-    given (fraction_at seconds.1) _ moment h3 (λ fraction e4 h4.
-    given (offset_at fraction.1) _ moment h4 (λ offset e5 h5.
-    let d = day_takes text day e1 in
-    let t = time_mark_takes day.1 mark e2 in
-    let s = seconds_takes mark seconds e3 in
-    let f = fraction_takes seconds.1 fraction e4 in
-    let o = offset_takes fraction.1 offset e5 in
+    given (day_at text) (λ date e. e) _ moment h (λ date e h1.
+    given _ (four_takes text) _ date e (λ year y e1.
+    given _ (mark_takes 45 year.1) _ date e1 (λ dash p e2.
+    given _ (two_takes dash) _ date e2 (λ month m e3.
+    given _ (mark_takes 45 month.1) _ date e3 (λ dash2 q e4.
+    given _ (two_takes dash2) _ date e4 (λ day d e5.
+    given (day_number year.0 month.0 day.0) (cond_some (is_date year.0 month.0 day.0) (days_from_civil (pos year.0) month.0 day.0)) _ date e5 (λ number n e6.
+    given _ (time_mark_takes date.1) _ moment h1 (λ mark t h2.
+    given _ (seconds_takes mark) _ moment h2 (λ seconds s h3.
+    given _ (fraction_takes seconds.1) _ moment h3 (λ fraction f h4.
+    given _ (offset_takes fraction.1) _ moment h4 (λ offset o h5.
     let last = nothing_left offset.1 _ moment h5 in
-    let r = range_takes (day.0 *ℤ pos 86_400_000_000_000 +ℤ pos (seconds.0 * second + fraction.0) -ℤ offset.0 *ℤ pos 60_000_000_000) moment last.1 in (
+    let r = range_takes (date.0 *ℤ pos 86_400_000_000_000 +ℤ pos (seconds.0 * second + fraction.0) -ℤ offset.0 *ℤ pos 60_000_000_000) moment last.1 in
+    let dated = is_dated year.0 month.0 day.0 n.0 in
+    let read : ((number, day.1) ≡ date) = same_Some (number, day.1) date e6 in (
       record {
-        year = d.year;
-        month = d.month;
-        day = d.day;
-        hours = s.hours;
-        minutes = s.minutes;
-        seconds = s.seconds;
+        year = year.0;
+        month = month.0;
+        day = day.0;
+        hours = seconds.0 / 3600;
+        minutes = seconds.0 / 60 % 60;
+        seconds = seconds.0 % 60;
         fraction = f.digits;
-        zone = o.zone;
-        time_mark = t.mark;
-        utc_mark = o.mark;
+        zone = o.0;
+        time_mark = t.0;
+        utc_mark = o.1;
       },
       record {
-        year = d.year_in;
-        month = d.month_in;
-        day = d.day_in;
-        clock = s.clock;
+        year = y.1;
+        month = dated.0;
+        day = dated.1;
+        clock = (omega arith, omega arith, omega arith);
         fraction = (f.few, f.are);
-        zone = o.are;
-        marks = (t.marks, o.marks);
+        zone = o.3;
+        marks = (t.2, o.4);
       },
-      joined text day.1 mark seconds.1 fraction.1 offset.1 d.year d.month d.day t.mark s.hours s.minutes s.seconds (fraction_text f.digits) (zone_text o.mark o.zone) d.text t.text s.text f.text o.text last.0,
-      valued day.0 (days_from_civil (pos d.year) d.month d.day) offset.0 (offset_minutes o.zone) seconds.0 ((s.hours * 60 + s.minutes) * 60 + s.seconds) fraction.0 (fraction_nanoseconds f.digits) moment d.value s.value f.value o.value r.0,
+      rw (y.0, p, m.0, q, d.0, ap (λ (r : ℤ × List ℕ). r.1) read, t.1, s.0, f.text, o.2, last.0, append-nil (zone_text o.1 o.0)) refl,
+      valued date.0 (days_from_civil (pos year.0) month.0 day.0) offset.0 (offset_minutes o.0) seconds.0 ((seconds.0 / 3600 * 60 + seconds.0 / 60 % 60) * 60 + seconds.0 % 60) fraction.0 (fraction_nanoseconds f.digits) moment (sym (n.1 ∙ ap (λ (r : ℤ × List ℕ). r.0) read)) (omega arith) f.value o.5 r.0,
       r.1,
-    ))))))
+    ))))))))))))

@@ -6,6 +6,7 @@ ghost use Rattle.amr_time.specs.Calendar.{date_of, month_length};
 use jiff_core::civil::{Date, days_in_month};
 
 /// Returns the year, month and day of a day, numbered from 1970-01-01, which is 0.
+#[tactic(auto, using(crate::proofs::Days::same_date))]
 pub(crate) fn date_with_number(day: u32) -> (u32, u32, u32)
     requires { day ≤ 2_932_896 }
     ensures { let date = date_of day in result ≡ (date.year, date.month, date.day) }

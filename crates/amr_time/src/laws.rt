@@ -13,6 +13,7 @@ pub fn next_multiple_is_the_least()
 
 /// Says that a text that is read as a moment spells an existing date, a time of day and an offset,
 /// and that their nanoseconds are the moment.
+#[tactic(auto, using(crate::proofs::Takes::read_is_spelled))]
 pub fn what_is_read_is_spelled()
     ensures { ReadIsSpelled }
 {}
@@ -25,17 +26,20 @@ pub fn what_is_spelled_is_read()
 
 /// Says that the text of a moment spells an existing date and a time of day in UTC, and that their
 /// nanoseconds are the moment.
+#[tactic(auto, using(crate::proofs::Written::written_is_spelled))]
 pub fn what_is_written_is_spelled()
     ensures { WrittenIsSpelled }
 {}
 
 /// Says that the text of a moment is read back as the same moment.
+#[tactic(auto, using(crate::proofs::Written::written_is_read))]
 pub fn what_is_written_is_read()
     ensures { WrittenIsRead }
 {}
 
 /// Says that a text that is read as a duration is `0` or spells amounts of the units, and that
 /// their sum is the duration.
+#[tactic(auto, using(crate::proofs::SpanTexts::read_span_is_spelled))]
 pub fn what_is_read_as_a_span_is_spelled()
     ensures { ReadSpanIsSpelled }
 {}

@@ -17,6 +17,7 @@ use jiff_core::civil::Date;
 /// nine digits of a fraction.
 ///
 /// `T` and `Z` may be in either case. The leap second 60 is refused.
+#[tactic(auto, using(crate::proofs::Takes::read_is_spelled))]
 pub fn read_moment(text: &str) -> Result<Moment, TimeError>
     ensures value { result_ok result ≡ moment_at text.now }
     ensures spelled { IfOk result (λ moment. IsMomentText text.now moment) }
@@ -110,6 +111,7 @@ fn fraction(bytes: &[u8]) -> Option<(u64, &[u8])>
 }
 
 /// Reads a fraction of one to nine digits, in nanoseconds.
+#[tactic(auto, using(crate::proofs::Decimals::fraction_gives, crate::proofs::Decimals::fraction_bound))]
 fn fraction_digits(bytes: &[u8]) -> Option<(u64, &[u8])>
     ensures value { option_map (λ x. (x.0, x.1.now)) result ≡ fraction_digits_at bytes.now }
     ensures bound { IfSome result (λ x. x.0 < 2 ^ 60) }
@@ -174,6 +176,7 @@ fn day(bytes: &[u8]) -> Option<(i32, &[u8])>
 }
 
 /// Returns the number of a day, from 1970-01-01, if the date exists.
+#[tactic(auto, using(crate::proofs::Dates::made, crate::proofs::Dates::refused))]
 fn day_number(year: u16, month: u8, day: u8) -> Option<i32>
     requires year_in { year < 10000 }
     requires month_in { month < 100 }

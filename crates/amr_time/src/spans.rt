@@ -82,7 +82,7 @@ impl Span {
     /// Reads a duration as in Alertmanager's configuration: `0`, or whole numbers with the units
     /// `y` (365 days), `w`, `d`, `h`, `m`, `s` and `ms`, each at most once and in this order, as in
     /// `1h30m`. Fails if it is longer than ten years.
-    #[tactic(auto, using(crate::proofs::Durations::same_some, crate::proofs::Durations::too_long, crate::proofs::Durations::same_none), unfolding(crate::specs::SpanRead::span_of))]
+    #[tactic(auto, using(crate::proofs::Durations::same_some, crate::proofs::Durations::too_long, crate::proofs::Durations::same_none, crate::proofs::SpanTexts::read_span_is_spelled), unfolding(crate::specs::SpanRead::span_of))]
     pub fn read(text: &str) -> Result<Span, TimeError>
         ensures value { result_ok result ≡ span_of text.now }
         ensures spelled { IfOk result (λ span. IsSpanText text.now span) }
