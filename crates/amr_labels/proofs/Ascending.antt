@@ -5,12 +5,11 @@ use Rattle.std.specs.Cmp.{IsTotalOrder}
 use Rattle.std.specs.FinMap.{find, is_sorted, IsAntisymmetric}
 use Rattle.std.specs.Option.{option_or}
 use Rattle.std.specs.FinMap.Entries.{below_all}
-use Rattle.std.specs.Ordering.{eq_by_cmp, is_eq, is_lt}
+use Rattle.std.specs.Ordering.{is_eq, is_lt}
 use Rattle.std.specs.List.{IsAllAdjacentAnswer}
 use Rattle.std.proofs.lemmas.Bool.{true≢false, false_from_ne_true}
 use Rattle.std.proofs.lemmas.List.{get_or-map, length-map, reverse-append}
 use Rattle.std.proofs.lemmas.Map.Keys.{sorted_from_all_adjacent}
-use Rattle.regex_hir.proofs.OptionLemmas.{option_or-None}
 use Rattle.amr_labels.proofs.Trees.{sorted_entries}
 use Rattle.std.specs.declared.cmp.Ordering.{Ordering}
 use Rattle.std.specs.declared.cmp.Ordering.TheVariants.{Less, Equal}
@@ -18,8 +17,7 @@ use Rattle.amr_labels.specs.Map.{from_entries, from_sorted, entries-from_sorted,
 use Rattle.amr_labels.proofs.Sorted.{first, second, less}
 
 is_less : (r : Ordering) → true ≡ is_lt r → r ≡ Less
-is_less Less t = refl
-is_less _ t = absurd (true≢false t)
+is_less r t = grind arith
 
 is_true : (b : Bool) → T b → true ≡ b
 is_true true t = refl
@@ -28,11 +26,7 @@ is_true false t = absurd t
 module _ {K X : Type 0} (R : K → K → Ordering) where
   find-append : (q : K) (xs ys : List (K × X)) → find R q (xs ++ ys) ≡ option_or (find R q xs) (find R q ys)
   find-append q [] ys = refl
-  find-append q (e ∷ es) ys =
-      elim (eq_by_cmp R q e.0) as (λ b. cond b (Some e.1) (find R q (es ++ ys)) ≡ option_or (cond b (Some e.1) (find R q es)) (find R q ys)) [
-        | true ↦ refl
-        | false ↦ find-append q es ys
-      ]
+  find-append q (e ∷ es) ys = grind (arith, find-append q es ys)
 
   -- the names of neighbours ascend
   pub neighbours_ascend : (es : List (K × X)) (k : ℕ) (d : K × X) → T (is_sorted R es) → k + 1 < length es → R (get_or es k d).0 (get_or es (k + 1) d).0 ≡ Less
@@ -54,8 +48,7 @@ module _ {K X : Type 0} {R : K → K → Ordering} (o : IsTotalOrder R) where
 
   no_neighbours : (es : List (K × X)) (k : ℕ) → k + 1 < length es → ((d : K × X) → false ≡ is_lt (R (get_or es k d).0 (get_or es (k + 1) d).0)) → is_sorted R es ≡ true → false ≡ true
   no_neighbours [] k within above sorted = absurd (omega (arith, within))
-  no_neighbours (e ∷ es) k within above sorted =
-      above e ∙ ap is_lt (neighbours_ascend R (e ∷ es) k e (subst T (sym sorted) tt) within)
+  no_neighbours (e ∷ es) k within above sorted = above e ∙ ap is_lt (neighbours_ascend R (e ∷ es) k e (subst T (sym sorted) tt) within)
 
   -- names ascend if those of all neighbours do
   pub ascending : (es : List (K × X)) (answer : Bool) → IsAllAdjacentAnswer (λ x y b. b ≡ is_lt (R x.0 y.0)) es answer → answer ≡ is_sorted R es
@@ -70,10 +63,8 @@ module _ {K X : Type 0} {R : K → K → Ordering} (o : IsTotalOrder R) where
 
   last_or_first : (q : K) (e : K × X) (es : List (K × X)) → T (below_all R e.0 es) → option_or (find R q es) (find R q (e ∷ [])) ≡ find R q (e ∷ es)
   last_or_first q e es h =
-      elim (R q e.0) as (λ r. R q e.0 ≡ r → option_or (find R q es) (cond (is_eq r) (Some e.1) None) ≡ cond (is_eq r) (Some e.1) (find R q es)) [
-        | Equal ↦ λ t. ap (λ found. option_or found (Some e.1)) (not_above q e.0 es t h)
-        | _ ↦ λ _. option_or-None (find R q es)
-      ] refl
+      let tied = λ (t : R q e.0 ≡ Equal). not_above q e.0 es t h in
+      grind (arith, tied)
 
   find-reverse : (q : K) (es : List (K × X)) → T (is_sorted R es) → find R q (reverse es) ≡ find R q es
   find-reverse q [] h = refl

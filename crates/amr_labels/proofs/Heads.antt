@@ -127,8 +127,4 @@ outside (p ∷ ps) (b ∷ bs) e = first_outside b p _ (standing ps bs) (text_cmp
 
 -- and of one that does not
 pub head_outside : (ps text : Text) → pointwise nat_eq (take (length ps) text) ps ≡ false → head_past ps text ≡ cond (is_lt (text_cmp text ps)) (with_head 7 0 text) (with_head 7 2 text)
-head_outside ps text e = standing_at ps text (cond (is_lt (text_cmp text ps)) Less Greater) (outside ps text e) ∙ chosen (is_lt (text_cmp text ps))
-  where
-    chosen : (b : Bool) → match_ordering (cond b Less Greater) (with_head 7 0 text) (with_head 7 1 (drop (length ps) text)) (with_head 7 2 text) ≡ cond b (with_head 7 0 text) (with_head 7 2 text)
-    chosen true = refl
-    chosen false = refl
+head_outside ps text e = grind (arith, standing_at ps text (cond (is_lt (text_cmp text ps)) Less Greater) (outside ps text e))

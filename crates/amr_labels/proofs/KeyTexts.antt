@@ -1,5 +1,5 @@
 -- A sort key says of which labels it is, if it is known how many they are.
-use Rattle.std.proofs.Common.{arith, ◌≡◌, ◌≢◌, ◌==◌, ℕ, zero, suc, ◌<◌, ◌≤◌, ◌+◌, List, [], ◌∷◌, ◌++◌, Bool, true, ◌||◌, false, length, get_or, take, drop, nat_eq, Bor, Option, Some, None, MatchOption, refl, sym, ap, ◌∙◌}
+use Rattle.std.proofs.Common.{arith, ◌≡◌, ◌≢◌, ◌==◌, ℕ, zero, suc, ◌<◌, ◌≤◌, ◌+◌, List, [], ◌∷◌, ◌++◌, Bool, true, false, length, get_or, take, drop, nat_eq, Bor, Option, Some, None, MatchOption, refl, sym, ap, ◌∙◌}
 use Rattle.std.specs.Prelude.{IfSome, IfNone}
 use Rattle.std.specs.List.{list_any}
 use Rattle.std.proofs.lemmas.Bool.{or_parts, true≢false}
@@ -25,12 +25,9 @@ module _ (texts : List Text) (others_are : (others : List Text) → length texts
   first_texts : (text other : Text) (others : List Text) → has_zero text ≡ false → length texts ≤ length others
       → key_of_text text ++ key_of texts ≡ key_of_text other ++ key_of others → (text ≡ other) × (texts ≡ others)
   first_texts [] [] others h l e = (refl, others_are others l (cc))
-  first_texts [] (b ∷ other) others h l e =
-      let n = ap length (others_are (other ∷ others) (omega (arith, l)) (cc)) in absurd (omega (arith, n, l))
+  first_texts [] (b ∷ other) others h l e = let n = ap length (others_are (other ∷ others) (omega (arith, l)) (cc)) in absurd (omega (arith, n, l))
   first_texts (a ∷ text) [] others h l e = absurd (not_zero a text h (cc))
-  first_texts (a ∷ text) (b ∷ other) others h l e =
-      let rest = first_texts text other others (or_parts (a == 0) (has_zero text) h).1 l (cc) in
-      ((cc), rest.1)
+  first_texts (a ∷ text) (b ∷ other) others h l e = let rest = first_texts text other others (or_parts (a == 0) (has_zero text) h).1 l (cc) in ((cc), rest.1)
 
 same_texts : (texts others : List Text) → none_have_zeros texts ≡ false → length texts ≤ length others → key_of texts ≡ key_of others → texts ≡ others
 same_texts [] [] h l e = refl
@@ -40,7 +37,7 @@ same_texts (text ∷ texts) [] h l e = absurd (omega (arith, l))
 same_texts (text ∷ texts) (other ∷ others) h l e =
     let parts = or_parts (has_zero text) (none_have_zeros texts) h in
     let are = first_texts texts (λ more. same_texts texts more parts.1) text other others parts.0 (omega (arith, l)) e in
-    λ i. are.0 i ∷ are.1 i
+    cc
 
 -- the names and the values, one after another
 abbrev texts_of : List (Text × Text) → List Text
@@ -49,16 +46,11 @@ texts_of (label ∷ labels) = label.0 ∷ label.1 ∷ texts_of labels
 
 key_is : (labels : List (Text × Text)) → key_of (texts_of labels) ≡ sort_key labels
 key_is [] = refl
-key_is (label ∷ labels) =
-    ap (λ key. key_of_text label.0 ++ (key_of_text label.1 ++ key)) (key_is labels)
-    ∙ sym (append_assoc (key_of_text label.0) (key_of_text label.1) (sort_key labels))
+key_is (label ∷ labels) = rw (key_is labels) (sym (append_assoc (key_of_text label.0) (key_of_text label.1) (sort_key labels)))
 
 no_zeros : (labels : List (Text × Text)) → has_zeros labels ≡ false → none_have_zeros (texts_of labels) ≡ false
 no_zeros [] h = refl
-no_zeros (label ∷ labels) h =
-    let parts = or_parts (has_zero label.0 || has_zero label.1) (has_zeros labels) h in
-    let both = or_parts (has_zero label.0) (has_zero label.1) parts.0 in
-    λ i. both.0 i || (both.1 i || no_zeros labels parts.1 i)
+no_zeros (label ∷ labels) h = grind (arith, no_zeros labels)
 
 count_is : (labels : List (Text × Text)) → length (texts_of labels) ≡ length labels + length labels
 count_is [] = refl

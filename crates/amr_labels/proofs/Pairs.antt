@@ -1,11 +1,10 @@
 -- Maps made of pairs; if a key is repeated, the last value counts.
-use Rattle.std.proofs.Common.{◌≡◌, ℕ, ◌+◌, ◌<◌, Bool, cond, T, List, [], ◌∷◌, ◌++◌, Option, Some, length, take, reverse, get_or, refl, sym, ap, subst, ◌∙◌}
+use Rattle.std.proofs.Common.{arith, ◌≡◌, ℕ, ◌+◌, ◌<◌, Bool, cond, T, List, [], ◌∷◌, ◌++◌, Option, Some, length, take, reverse, get_or, refl, sym, ap, subst, ◌∙◌}
 use Rattle.std.specs.Cmp.{IsTotalOrder, tied_itself}
 use Rattle.std.specs.FinMap.{find, is_sorted}
 use Rattle.std.specs.FinMap.Entries.{below_all, where_key, is_sorted-where_key}
 use Rattle.std.specs.List.{AllByRecursion, filter, list_all}
 use Rattle.std.specs.Prelude.{true}
-use Rattle.std.proofs.lemmas.Bool.{and_parts}
 use Rattle.std.specs.Option.{unwrap_or}
 use Rattle.std.specs.Ordering.{is_eq, ordering_reverse}
 use Rattle.std.specs.declared.cmp.Ordering.{Ordering}
@@ -28,7 +27,7 @@ filter_alike p q (x ∷ xs) h = λ i. cond (h.0 i) (x ∷ filter_alike p q xs h.
 -- a test that each item passes keeps all
 filter_all : {X : Type 0} (p : X → Bool) (xs : List X) → list_all p xs ≡ true → filter p xs ≡ xs
 filter_all p [] h = refl
-filter_all p (x ∷ xs) h = let parts = and_parts (p x) (list_all p xs) h in rw parts.0 (ap (λ ys. x ∷ ys) (filter_all p xs parts.1))
+filter_all p (x ∷ xs) h = grind (arith, filter_all p xs)
 
 module _ {K X : Type 0} {R : K → K → Ordering} (o : IsTotalOrder R) where
   -- what is found among greater entries doesn't change if a lesser one is put in front
@@ -42,10 +41,7 @@ module _ {K X : Type 0} {R : K → K → Ordering} (o : IsTotalOrder R) where
   -- each entry of a sorted list is found by its key
   pub own_values : (es : List (K × X)) → T (is_sorted R es) → AllByRecursion (λ e. find R e.0 es ≡ Some e.1) es
   own_values [] h = tt
-  own_values (e ∷ es) h = (
-    ap (λ r. cond (is_eq r) (Some e.1) (find R e.0 es)) (tied_itself o e.0),
-    later e es es (first _ _ h) (own_values es (second _ _ h)),
-  )
+  own_values (e ∷ es) h = (grind (arith, tied_itself o e.0), later e es es (first _ _ h) (own_values es (second _ _ h)))
 
   tested : (test : X → Bool) (none : X) (es fs : List (K × X)) → AllByRecursion (λ f. find R f.0 es ≡ Some f.1) fs
       → AllByRecursion (λ f. test f.1 ≡ test (unwrap_or (find R f.0 es) none)) fs

@@ -1,7 +1,6 @@
 -- The label set of a list of pairs has no empty name and no empty value.
-use Rattle.std.proofs.Common.{◌≡◌, Bool, true, false, cond, not, List, [], ◌∷◌, is_some, refl, sym, ap, ◌∙◌}
+use Rattle.std.proofs.Common.{arith, ◌≡◌, Bool, true, false, not, List, [], ◌∷◌, is_some, refl, sym, ap, ◌∙◌}
 use Rattle.std.specs.Prelude.{◌&&◌}
-use Rattle.std.specs.Cmp.{first_so, second_so}
 use Rattle.std.specs.Cmp.Lexicographic.{nat_list_cmp_total}
 use Rattle.std.specs.FinMap.{find}
 use Rattle.std.specs.List.{list_all, filter}
@@ -11,16 +10,11 @@ use Rattle.amr_labels.proofs.Pairs.{filter_by_values}
 
 all_of_filter : {X : Type 0} (p : X → Bool) (xs : List X) → list_all p (filter p xs) ≡ true
 all_of_filter p [] = refl
-all_of_filter p (x ∷ xs) =
-    elim (p x) as (λ b. p x ≡ b → list_all p (cond b (x ∷ filter p xs) (filter p xs)) ≡ true) [
-      | true ↦ λ e. ap (λ b. b && list_all p (filter p xs)) e ∙ all_of_filter p xs
-      | false ↦ λ e. all_of_filter p xs
-    ] refl
+all_of_filter p (x ∷ xs) = grind (arith, all_of_filter p xs)
 
 all_both : {X : Type 0} (p q : X → Bool) (xs : List X) → list_all p xs ≡ true → list_all q xs ≡ true → list_all (λ x. p x && q x) xs ≡ true
 all_both p q [] h g = refl
-all_both p q (x ∷ xs) h g =
-    λ i. (first_so (p x) (list_all p xs) h i && first_so (q x) (list_all q xs) g i) && all_both p q xs (second_so (p x) (list_all p xs) h) (second_so (q x) (list_all q xs) g) i
+all_both p q (x ∷ xs) h g = grind (arith, all_both p q xs)
 
 -- if no entry has the empty name, all have names
 all_named : (es : List (Text × Text)) → is_some (find text_cmp [] es) ≡ false → list_all (λ e. not (is_empty e.0)) es ≡ true

@@ -1,5 +1,5 @@
 -- What a binary search by key finds among entries in strictly ascending order.
-use Rattle.std.proofs.Common.{◌≡◌, ◌≢◌, ℕ, zero, suc, ◌<◌, ◌≤◌, true, false, cond, T, IsSorted, List, [], ◌∷◌, Some, None, Result, Ok, Err, MatchResult, length, get_or, refl, sym, ap, ◌∙◌, inl, inr, arith}
+use Rattle.std.proofs.Common.{◌≡◌, ◌≢◌, ℕ, zero, suc, ◌<◌, ◌≤◌, true, false, T, IsSorted, List, [], ◌∷◌, Some, None, Result, Ok, Err, MatchResult, length, get_or, refl, ap, ◌∙◌, inl, inr, arith}
 use Rattle.std.specs.declared.cmp.Ordering.{Ordering}
 use Rattle.std.specs.declared.cmp.Ordering.TheVariants.{Less, Equal, Greater}
 use Rattle.std.specs.Cmp.{IsTotalOrder}
@@ -16,8 +16,7 @@ use Rattle.amr_labels.proofs.Sorted.{first, second, less}
 
 -- no answer stands after the third
 pub at_most_two : (o : Ordering) → ordering_index o ≤ 2
-at_most_two Less = omega arith
-at_most_two _ = omega arith
+at_most_two o = grind arith
 
 same_index : (o p : Ordering) → o ≡ p → ordering_index o ≤ ordering_index p
 same_index o p e = rw e (omega arith)
@@ -46,20 +45,17 @@ module _ {K X : Type 0} {R : K → K → Ordering} (o : IsTotalOrder R) where
 
   found_at : (q : K) (es : List (K × X)) (i : ℕ) (d : K × X) → T (is_sorted R es) → i < length es → R (get_or es i d).0 q ≡ Equal → find R q es ≡ Some (get_or es i d).1
   found_at q [] i d h within e = absurd (omega arith)
-  found_at q (f ∷ es) zero d h within e = ap (λ r. cond (is_eq r) (Some f.1) (find R q es)) (o.antisymm q f.0 ∙ ap ordering_reverse e)
+  found_at q (f ∷ es) zero d h within e = grind (arith, o.antisymm q f.0)
   found_at q (f ∷ es) (suc i) d h within e =
-      ap (λ r. cond (is_eq r) (Some f.1) (find R q es))
-      (sym (o.congr (get_or es i d).0 q f.0 e) ∙ o.antisymm (get_or es i d).0 f.0 ∙ ap ordering_reverse (above f.0 es i d (first _ _ h) (omega arith)))
-      ∙ found_at q es i d (second _ _ h) (omega arith) e
+      let later = above f.0 es i d (first _ _ h) (omega arith) in
+      let rest = found_at q es i d (second _ _ h) (omega arith) e in
+      grind (arith, o.congr (get_or es i d).0 q f.0 e, o.antisymm (get_or es i d).0 f.0)
 
   none_found : (q : K) (es : List (K × X)) → ((i : ℕ) (d : K × X) → i < length es → R (get_or es i d).0 q ≢ Equal) → find R q es ≡ None
   none_found q [] h = refl
   none_found q (e ∷ es) h =
       let rest : find R q es ≡ None = none_found q es (λ i d within. h (suc i) d (omega arith)) in
-      elim (R q e.0) as (λ r. R q e.0 ≡ r → cond (is_eq r) (Some e.1) (find R q es) ≡ None) [
-        | Equal ↦ λ t. absurd (h zero e (omega arith) (o.antisymm e.0 q ∙ ap ordering_reverse t))
-        | _ ↦ λ t. rest
-      ] refl
+      grind (arith, rest, h zero e (omega arith), o.antisymm e.0 q)
 
   -- the result of the search
   pub searched : (q : K) (es : List (K × X)) (r : Result ℕ ℕ) → T (is_sorted R es) → IsSearchInRange r (length es) → IsBinarySearchResult (λ e. R e.0 q) es r

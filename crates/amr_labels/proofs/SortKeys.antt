@@ -11,8 +11,7 @@ use Rattle.amr_labels.specs.Labels.{Text, text_cmp, label_cmp}
 use Rattle.amr_labels.specs.SortKey.{key_of_text, key_of_label, sort_key, has_zero, label_has_zero, has_zeros}
 
 then_then : (a b c : Ordering) → ordering_then a (ordering_then b c) ≡ ordering_then (ordering_then a b) c
-then_then Less b c = refl
-then_then _ b c = refl
+then_then a b c = grind arith
 
 end_first : (b : ℕ) (text : Text) (o : Ordering) → has_zero (b ∷ text) ≡ false → ordering_then (nat_cmp 0 b) o ≡ Less
 end_first b text o h = let parts = or_parts (b == 0) (has_zero text) h in grind (arith, nat_tests)

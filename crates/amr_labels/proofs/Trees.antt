@@ -1,10 +1,10 @@
 -- An ordered tree of std, as the finite map of its entries.
-use Rattle.std.proofs.Common.{◌≡◌, not, cond, List, [], ◌∷◌, Some, map, refl, sym, ap, subst, ◌∙◌, T}
+use Rattle.std.proofs.Common.{arith, ◌≡◌, not, cond, List, [], ◌∷◌, Some, map, refl, sym, ap, subst, ◌∙◌, T}
 use Rattle.std.specs.declared.cmp.Ordering.{Ordering}
-use Rattle.std.specs.declared.cmp.Ordering.TheVariants.{Less, Equal, Greater}
-use Rattle.std.specs.Ordering.{is_lt, is_eq, eq_by_cmp, match_ordering}
+use Rattle.std.specs.declared.cmp.Ordering.TheVariants.{Less, Equal}
+use Rattle.std.specs.Ordering.{is_lt, is_eq, eq_by_cmp}
 use Rattle.std.specs.FinMap.{find, put, is_sorted}
-use Rattle.std.specs.FinMap.Entries.{below_all, by_order, where_key}
+use Rattle.std.specs.FinMap.Entries.{below_all, where_key}
 use Rattle.std.specs.Map.{lookup}
 use Rattle.std.specs.List.{AllByRecursion}
 use Rattle.std.specs.List.Sorted.{IsStrictlySortedBy}
@@ -28,11 +28,7 @@ module _ {K X : Type 0} (R : K → K → Ordering) where
   -- std's insertion is the finite map's
   pub put_is : (es : List (K × X)) (k : K) (v : X) → insert_entry R es k v ≡ put R k v es
   put_is [] k v = refl
-  put_is (e ∷ es) k v =
-      elim (R k e.0) as (λ o. match_ordering o ((k, v) ∷ e ∷ es) ((e.0, v) ∷ es) (e ∷ insert_entry R es k v) ≡ by_order o ((k, v) ∷ e ∷ es) ((e.0, v) ∷ es) (e ∷ put R k v es)) [
-        | Greater ↦ ap (λ t. e ∷ t) (put_is es k v)
-        | _ ↦ refl
-      ]
+  put_is (e ∷ es) k v = grind (arith, put_is es k v)
 
   pub lookup_is : (es : List (K × X)) (q : K) → find R q es ≡ lookup (tree.is_at (R q)) es
   lookup_is [] q = refl

@@ -1,8 +1,7 @@
 -- What the kinds of characters mean.
-use Rattle.std.proofs.Common.{arith, ◌≡◌, ℕ, Bool, true, false, ◌||◌, ◌==◌, if◌then◌else◌, refl, ap}
+use Rattle.std.proofs.Common.{arith, ◌≡◌, ℕ, Bool, true, false, if◌then◌else◌, refl, ap}
 use Rattle.std.specs.Char.{is_whitespace}
 use Rattle.std.proofs.lemmas.Bool.Decides.{nat_tests}
-use Rattle.std.proofs.lemmas.Bool.{eqb-true}
 use Rattle.amr_labels.specs.declared.matcher.matcher_steps.Kind.{Kind}
 use Rattle.amr_labels.specs.declared.matcher.matcher_steps.Kind.TheVariants.{Blank, Opening, Closing, Bang, Equals, Tilde, Comma, Quote, Reserved, Plain}
 use Rattle.amr_labels.specs.Matcher.MatcherText.{is_literal}
@@ -26,16 +25,7 @@ chosen P true x y f g = f refl
 chosen P false x y f g = g refl
 
 mark_means : (c : ℕ) → is_whitespace c ≡ false → Means (mark_kind c) c
-mark_means c w =
-    chosen (λ k. Means k c) (c == 123) Opening _ (eqb-true c 123) (λ e1.
-    chosen (λ k. Means k c) (c == 125) Closing _ (eqb-true c 125) (λ e2.
-    chosen (λ k. Means k c) (c == 33) Bang _ (eqb-true c 33) (λ e3.
-    chosen (λ k. Means k c) (c == 61) Equals _ (eqb-true c 61) (λ e4.
-    chosen (λ k. Means k c) (c == 126) Tilde _ (eqb-true c 126) (λ e5.
-    chosen (λ k. Means k c) (c == 44) Comma _ (eqb-true c 44) (λ e6.
-    chosen (λ k. Means k c) (c == 34) Quote _ (eqb-true c 34) (λ e7.
-    chosen (λ k. Means k c) ((c == 92) || (c == 39) || (c == 96)) Reserved Plain (λ _. tt) (λ e8.
-    grind (arith, nat_tests)))))))))
+mark_means c w = grind (arith, nat_tests)
 
 means_of : (c : ℕ) → Means (kind_of c) c
 unfolding kind_of

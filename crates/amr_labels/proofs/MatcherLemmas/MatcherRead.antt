@@ -172,13 +172,13 @@ module _ (P : Text → List ℕ → Type 0) (t : Text) where
   some_pieces cs f = (f.0 ∷ f.1, f.2, f.3, f.4, f.5)
 
   -- in quotes: a quote, a backslash, or a character that stands for itself
-  quoted : (r : Reading) (ended plain : Option Step) (escape : Mode) (c : ℕ) (cs : List ℕ) (out : List Matcher) (q s : Bool) → (c == 34) ≡ q → (c == 92) ≡ s →
+  quoted : {X : Type 0} (r : Reading) (ended plain : Option Step) (escape : Mode) (c : ℕ) (cs : List ℕ) (out : List Matcher) (q s : Bool) → (c == 34) ≡ q → (c == 92) ≡ s →
       Taken r (if q then ended else (if s then go escape Nothing else plain)) cs out →
       (Taken r (go escape Nothing) cs out → FollowsBackslash P t cs) → (Taken r plain cs out → AfterPieces P (t ++ encode_utf8 c) cs) →
-      ((c ≡ 34) × Taken r ended cs out) ⊎ AfterPiece P t (c ∷ cs)
-  quoted r ended plain escape c cs out true s e f h escaped more = inl (eqb-true c 34 e, h)
-  quoted r ended plain escape c cs out false true e f h escaped more =
-      let g = escaped h in inr (
+      (c ≡ 34 → Taken r ended cs out → X) → (AfterPiece P t (c ∷ cs) → X) → X
+  quoted r ended plain escape c cs out true s e f h escaped more over on = over (eqb-true c 34 e) h
+  quoted r ended plain escape c cs out false true e f h escaped more over on =
+      let g = escaped h in on (
         Escape g.0,
         g.4.0,
         g.4.1,
@@ -186,8 +186,8 @@ module _ (P : Text → List ℕ → Type 0) (t : Text) where
         cons_same c 92 cs _ (eqb-true c 92 f) (g.2 ∙ ap (λ x. g.0 ∷ x) g.4.3),
         subst (λ x. P x g.4.1) (pieces_encoded t (Escape g.0) g.4.0) g.4.4,
       )
-  quoted r ended plain escape c cs out false false e f h escaped more =
-      let g = more h in inr (
+  quoted r ended plain escape c cs out false false e f h escaped more over on =
+      let g = more h in on (
         Character c,
         g.0,
         g.1,
@@ -197,22 +197,22 @@ module _ (P : Text → List ℕ → Type 0) (t : Text) where
       )
 
 -- where a matcher may begin
-begun : (b : Bool) (here : Mode) (o : Operator) (ms : List Matcher) (c : ℕ) (cs : List ℕ) (out : List Matcher) (k : Kind) → Known cs → kind_of c ≡ k →
+begun : {X : Type 0} (b : Bool) (here : Mode) (o : Operator) (ms : List Matcher) (c : ℕ) (cs : List ℕ) (out : List Matcher) (k : Kind) → Known cs → kind_of c ≡ k →
     Taken (reading b here [] o [] ms) (begins_matcher b here c k) cs out →
-    ((is_whitespace c ≡ true) × Accepts (reading b here [] o [] ms) cs out) ⊎ FollowsListed b ms (c ∷ cs) out
+    (is_whitespace c ≡ true → Accepts (reading b here [] o [] ms) cs out → X) → (FollowsListed b ms (c ∷ cs) out → X) → X
 unfolding begins_matcher with_part
-begun b here o ms c cs out Blank known e h = inl (means c Blank e, h)
-begun b here o ms c cs out Quote known e h =
+begun b here o ms c cs out Blank known e h space matcher = space (means c Blank e) h
+begun b here o ms c cs out Quote known e h space matcher =
     let f = known b NameOpened [] o [] ms out h in
-    inr (assembled b ms (Quoted (f.0 ∷ f.1)) (c ∷ cs) f.2 out f.3
+    matcher (assembled b ms (Quoted (f.0 ∷ f.1)) (c ∷ cs) f.2 out f.3
     (cons_same c 34 cs _ (means c Quote e) (f.4 ∙ sym (append_assoc (pieces_text (f.0 ∷ f.1)) (34 ∷ []) f.2))) f.5)
-begun true here o ms c cs out Closing known e h =
+begun true here o ms c cs out Closing known e h space matcher =
     let f = known true Closed [] o [] ms out h in
-    inr (Alone [], c ∷ cs, refl, refl, (cs, cons_same c 125 cs cs (means c Closing e) refl, f.0), f.1 ∙ sym (append-nil ms))
-begun b here o ms c cs out Plain known e h =
+    matcher (Alone [], c ∷ cs, refl, refl, (cs, cons_same c 125 cs cs (means c Closing e) refl, f.0), f.1 ∙ sym (append-nil ms))
+begun b here o ms c cs out Plain known e h space matcher =
     let f = known b NameLiteral (encode_utf8 c) o [] ms out h in
-    inr (assembled b ms (Literal (c ∷ f.0)) (c ∷ cs) f.1 out (and_from (is_literal c) (list_all is_literal f.0) (means c Plain e) f.2) (ap (λ t. c ∷ t) f.3) f.4)
-begun b here o ms c cs out _ known e h = absurd (refused (reading b here [] o [] ms) cs out h)
+    matcher (assembled b ms (Literal (c ∷ f.0)) (c ∷ cs) f.1 out (and_from (is_literal c) (list_all is_literal f.0) (means c Plain e) f.2) (ap (λ t. c ∷ t) f.3) f.4)
+begun b here o ms c cs out _ known e h space matcher = absurd (refused (reading b here [] o [] ms) cs out h)
 
 from_start : (b : Bool) (o : Operator) (ms : List Matcher) (c : ℕ) (cs : List ℕ) (out : List Matcher) (k : Kind) → Known cs → kind_of c ≡ k → b ≡ false →
     Taken (reading b Start [] o [] ms) (at_start c k) cs out → FollowsListed false ms (c ∷ cs) out ⊎ FollowsBraces ms (c ∷ cs) out
@@ -222,44 +222,35 @@ from_start false o ms c cs out Opening known e f h =
     let g = known true Opened [] o [] ms out h refl refl refl in
     inr ([], g.0, g.4.0, refl, g.2, g.4.2, cons_same c 123 cs _ (means c Opening e) (g.3 ∙ ap (λ t. listed_text g.0 ++ t) g.4.1), g.5)
 from_start false o ms c cs out k known e f h =
-    elim (begun false Start o ms c cs out k known e h) [
-      | inr g ↦ inl g
-      | inl g ↦ elim (known false Start [] o [] ms out g.1 refl refl refl) [
-        | inl l ↦ inl (spaced_listed false ms c cs out g.0 l)
-        | inr l ↦ inr (c ∷ l.0, l.1, l.2, spaced c l.0 g.0 l.3, l.4, l.5, ap (λ t. c ∷ t) l.6, l.7)
-      ]
-    ]
+    begun false Start o ms c cs out k known e h (λ w a.
+    elim (known false Start [] o [] ms out a refl refl refl) [
+      | inl l ↦ inl (spaced_listed false ms c cs out w l)
+      | inr l ↦ inr (c ∷ l.0, l.1, l.2, spaced c l.0 w l.3, l.4, l.5, ap (λ t. c ∷ t) l.6, l.7)
+    ]) (λ l. inl l)
 
 -- white space goes on, or a matcher begins
 listed_begun : (b : Bool) (here : Mode) (o : Operator) (ms : List Matcher) (c : ℕ) (cs : List ℕ) (out : List Matcher) (k : Kind) → Known cs → kind_of c ≡ k →
     (Accepts (reading b here [] o [] ms) cs out → FollowsListed b ms cs out) → Taken (reading b here [] o [] ms) (begins_matcher b here c k) cs out → FollowsListed b ms (c ∷ cs) out
-listed_begun b here o ms c cs out k known e later h =
-    elim (begun b here o ms c cs out k known e h) [
-      | inr g ↦ g
-      | inl g ↦ spaced_listed b ms c cs out g.0 (later g.1)
-    ]
+listed_begun b here o ms c cs out k known e later h = begun b here o ms c cs out k known e h (λ w a. spaced_listed b ms c cs out w (later a)) (λ l. l)
 
 -- where a value ends
-value_ended : (b : Bool) (here space : Mode) (n : Text) (o : Operator) (v : Text) (ms : List Matcher) (c : ℕ) (cs : List ℕ) (out : List Matcher) (k : Kind) → Known cs → kind_of c ≡ k →
+value_ended : {X : Type 0} (b : Bool) (here space : Mode) (n : Text) (o : Operator) (v : Text) (ms : List Matcher) (c : ℕ) (cs : List ℕ) (out : List Matcher) (k : Kind) → Known cs → kind_of c ≡ k →
     Taken (reading b here n o v ms) (ends_value b space k) cs out →
-    ((is_whitespace c ≡ true) × Accepts (reading b space n o v ms) cs out) ⊎ FollowsValue b (with_matcher ms n o v) (c ∷ cs) out
+    (is_whitespace c ≡ true → Accepts (reading b space n o v ms) cs out → X) → (FollowsValue b (with_matcher ms n o v) (c ∷ cs) out → X) → X
 unfolding ends_value with_part
-value_ended b here space n o v ms c cs out Blank known e h = inl (means c Blank e, h)
-value_ended b here space n o v ms c cs out Comma known e h =
+value_ended b here space n o v ms c cs out Blank known e h blank over = blank (means c Blank e) h
+value_ended b here space n o v ms c cs out Comma known e h blank over =
     let f = known b AfterComma [] o [] (with_matcher ms n o v) out h refl refl in
-    inr ([], Some f.0, f.1, refl, f.2, cons_same c 44 cs _ (means c Comma e) f.3, f.4, f.5)
-value_ended true here space n o v ms c cs out Closing known e h =
+    over ([], Some f.0, f.1, refl, f.2, cons_same c 44 cs _ (means c Comma e) f.3, f.4, f.5)
+value_ended true here space n o v ms c cs out Closing known e h blank over =
     let f = known true Closed [] o [] (with_matcher ms n o v) out h in
-    inr ([], None, c ∷ cs, refl, tt, refl, (cs, cons_same c 125 cs cs (means c Closing e) refl, f.0), f.1 ∙ sym (append-nil (with_matcher ms n o v)))
-value_ended b here space n o v ms c cs out _ known e h = absurd (refused (reading b here n o v ms) cs out h)
+    over ([], None, c ∷ cs, refl, tt, refl, (cs, cons_same c 125 cs cs (means c Closing e) refl, f.0), f.1 ∙ sym (append-nil (with_matcher ms n o v)))
+value_ended b here space n o v ms c cs out _ known e h blank over = absurd (refused (reading b here n o v ms) cs out h)
 
 after_value : (b : Bool) (here : Mode) (n : Text) (o : Operator) (v : Text) (ms : List Matcher) (c : ℕ) (cs : List ℕ) (out : List Matcher) (k : Kind) → Known cs → kind_of c ≡ k →
     Taken (reading b here n o v ms) (ends_value b AfterValue k) cs out → FollowsValue b (with_matcher ms n o v) (c ∷ cs) out
 after_value b here n o v ms c cs out k known e h =
-    elim (value_ended b here AfterValue n o v ms c cs out k known e h) [
-      | inr g ↦ g
-      | inl g ↦ spaced_value b (with_matcher ms n o v) c cs out g.0 (known b AfterValue n o v ms out g.1)
-    ]
+    value_ended b here AfterValue n o v ms c cs out k known e h (λ w a. spaced_value b (with_matcher ms n o v) c cs out w (known b AfterValue n o v ms out a)) (λ f. f)
 
 in_literal_value : (b : Bool) (n : Text) (o : Operator) (v : Text) (ms : List Matcher) (c : ℕ) (cs : List ℕ) (out : List Matcher) (k : Kind) → Known cs → kind_of c ≡ k →
     Taken (reading b ValueLiteral n o v ms) (in_value b c k) cs out → AfterLiteral (ByValue b n o ms out) v (c ∷ cs)
@@ -271,6 +262,10 @@ in_literal_value b n o v ms c cs out k known e h = no_literal (ByValue b n o ms 
 literal_value : (b : Bool) (n : Text) (o : Operator) (v : Text) (ms : List Matcher) (cs : List ℕ) (out : List Matcher) → AfterLiteral (ByValue b n o ms out) v cs → FollowsOperator b n o v ms cs out
 literal_value b n o v ms cs out f = ([], Literal f.0, f.1, refl, f.2, f.3, f.4)
 
+-- and none
+no_value : (b : Bool) (n : Text) (o : Operator) (v : Text) (ms : List Matcher) (cs : List ℕ) (out : List Matcher) → FollowsValue b (with_matcher ms n o v) cs out → FollowsOperator b n o v ms cs out
+no_value b n o v ms cs out f = literal_value b n o v ms cs out (no_literal (ByValue b n o ms out) v cs f)
+
 -- where a value may begin
 value_begun : (b : Bool) (here : Mode) (n : Text) (o : Operator) (v : Text) (ms : List Matcher) (c : ℕ) (cs : List ℕ) (out : List Matcher) (k : Kind) → Known cs → kind_of c ≡ k →
     Taken (reading b here n o v ms) (begins_value b c k) cs out → FollowsOperator b n o v ms (c ∷ cs) out
@@ -281,12 +276,10 @@ value_begun b here n o v ms c cs out Quote known e h =
 value_begun b here n o v ms c cs out Plain known e h =
     literal_value b n o v ms (c ∷ cs) out (literal_first (ByValue b n o ms out) v c cs (means c Plain e) (known b ValueLiteral n o (v ++ encode_utf8 c) ms out h))
 value_begun b here n o v ms c cs out k known e h =
-    elim (value_ended b here ValueStart n o v ms c cs out k known e h) [
-      | inr g ↦ literal_value b n o v ms (c ∷ cs) out (no_literal (ByValue b n o ms out) v (c ∷ cs) g)
-      | inl g ↦
-          let f = known b ValueStart n o v ms out g.1 in
-          (c ∷ f.0, f.1, f.2, spaced c f.0 g.0 f.3, f.4, ap (λ t. c ∷ t) f.5, f.6)
-    ]
+    value_ended b here ValueStart n o v ms c cs out k known e h (λ w a.
+    let f = known b ValueStart n o v ms out a in
+    (c ∷ f.0, f.1, f.2, spaced c f.0 w f.3, f.4, ap (λ t. c ∷ t) f.5, f.6))
+    (λ f. no_value b n o v ms (c ∷ cs) out f)
 
 equals_read : (b : Bool) (n : Text) (o : Operator) (v : Text) (ms : List Matcher) (c : ℕ) (cs : List ℕ) (out : List Matcher) (k : Kind) → Known cs → kind_of c ≡ k →
     Taken (reading b AfterEquals n o v ms) (after_equals b c k) cs out → Follows b AfterEquals n o v ms (c ∷ cs) out
@@ -354,8 +347,8 @@ unfolding ending with_part
 at_end b Start n o v ms out h = λ f g k. inl (listed_over ms out h)
 at_end b Closed n o v ms out h = (refl, same_end ms out h)
 at_end false AfterComma n o v ms out h = λ g k. listed_over ms out h
-at_end false AfterEquals n o v ms out h = inr (literal_value false n o v ms [] out (no_literal (ByValue false n o ms out) v [] (value_over (with_matcher ms n o v) out h)))
-at_end false ValueStart n o v ms out h = literal_value false n o v ms [] out (no_literal (ByValue false n o ms out) v [] (value_over (with_matcher ms n o v) out h))
+at_end false AfterEquals n o v ms out h = inr (no_value false n o v ms [] out (value_over (with_matcher ms n o v) out h))
+at_end false ValueStart n o v ms out h = no_value false n o v ms [] out (value_over (with_matcher ms n o v) out h)
 at_end false ValueLiteral n o v ms out h = no_literal (ByValue false n o ms out) v [] (value_over (with_matcher ms n o v) out h)
 at_end false AfterValue n o v ms out h = value_over (with_matcher ms n o v) out h
 at_end b _ n o v ms out h = absurd (refused (reading b Start n o v ms) [] out h)
@@ -373,17 +366,12 @@ one_more c cs known true Opened n o v ms out h = λ f g k.
     (cleared (λ x y. Taken (reading true Opened x o y ms) (begins_matcher true Opened c (kind_of c)) cs out) n v g k h)
 one_more c cs known b NameLiteral n o v ms out h = in_literal_name b n o v ms c cs out (kind_of c) known refl h
 one_more c cs known b NameOpened n o v ms out h =
-    elim (quoted (ByName b v ms out) n (reading b NameOpened n o v ms) None (go NameQuoted (Name c)) NameEscape c cs out (c == 34) (c == 92) refl refl h
-    (known b NameEscape n o v ms out) (known b NameQuoted (n ++ encode_utf8 c) o v ms out)) [
-      | inl g ↦ absurd (refused (reading b NameOpened n o v ms) cs out g.1)
-      | inr g ↦ g
-    ]
+    quoted (ByName b v ms out) n (reading b NameOpened n o v ms) None (go NameQuoted (Name c)) NameEscape c cs out (c == 34) (c == 92) refl refl h
+    (known b NameEscape n o v ms out) (known b NameQuoted (n ++ encode_utf8 c) o v ms out) (λ e g. absurd (refused (reading b NameOpened n o v ms) cs out g)) (λ g. g)
 one_more c cs known b NameQuoted n o v ms out h =
-    elim (quoted (ByName b v ms out) n (reading b NameQuoted n o v ms) (go AfterName Nothing) (go NameQuoted (Name c)) NameEscape c cs out (c == 34) (c == 92) refl refl h
-    (known b NameEscape n o v ms out) (known b NameQuoted (n ++ encode_utf8 c) o v ms out)) [
-      | inl g ↦ no_pieces (ByName b v ms out) n c cs g.0 (known b AfterName n o v ms out g.1)
-      | inr g ↦ some_pieces (ByName b v ms out) n (c ∷ cs) g
-    ]
+    quoted (ByName b v ms out) n (reading b NameQuoted n o v ms) (go AfterName Nothing) (go NameQuoted (Name c)) NameEscape c cs out (c == 34) (c == 92) refl refl h
+    (known b NameEscape n o v ms out) (known b NameQuoted (n ++ encode_utf8 c) o v ms out)
+    (λ e g. no_pieces (ByName b v ms out) n c cs e (known b AfterName n o v ms out g)) (some_pieces (ByName b v ms out) n (c ∷ cs))
 one_more c cs known b NameEscape n o v ms out h =
     let g = escaped (reading b NameEscape n o v ms) (go NameQuoted (NameEscaped c)) c cs out (is_refused c) refl h in
     (c, cs, refl, g.0, known b NameQuoted (n ++ encode_utf8_all (meaning_of_escape c)) o v ms out g.1)
@@ -393,11 +381,9 @@ one_more c cs known b AfterEquals n o v ms out h = equals_read b n o v ms c cs o
 one_more c cs known b ValueStart n o v ms out h = value_begun b ValueStart n o v ms c cs out (kind_of c) known refl h
 one_more c cs known b ValueLiteral n o v ms out h = in_literal_value b n o v ms c cs out (kind_of c) known refl h
 one_more c cs known b ValueQuoted n o v ms out h =
-    elim (quoted (ByValue b n o ms out) v (reading b ValueQuoted n o v ms) (go AfterValue Nothing) (go ValueQuoted (Value c)) ValueEscape c cs out (c == 34) (c == 92) refl refl h
-    (known b ValueEscape n o v ms out) (known b ValueQuoted n o (v ++ encode_utf8 c) ms out)) [
-      | inl g ↦ no_pieces (ByValue b n o ms out) v c cs g.0 (known b AfterValue n o v ms out g.1)
-      | inr g ↦ some_pieces (ByValue b n o ms out) v (c ∷ cs) g
-    ]
+    quoted (ByValue b n o ms out) v (reading b ValueQuoted n o v ms) (go AfterValue Nothing) (go ValueQuoted (Value c)) ValueEscape c cs out (c == 34) (c == 92) refl refl h
+    (known b ValueEscape n o v ms out) (known b ValueQuoted n o (v ++ encode_utf8 c) ms out)
+    (λ e g. no_pieces (ByValue b n o ms out) v c cs e (known b AfterValue n o v ms out g)) (some_pieces (ByValue b n o ms out) v (c ∷ cs))
 one_more c cs known b ValueEscape n o v ms out h =
     let g = escaped (reading b ValueEscape n o v ms) (go ValueQuoted (ValueEscaped c)) c cs out (is_refused c) refl h in
     (c, cs, refl, g.0, known b ValueQuoted n o (v ++ encode_utf8_all (meaning_of_escape c)) ms out g.1)

@@ -1,10 +1,10 @@
 -- What a text spells is read.
-use Rattle.std.proofs.Common.{arith, ◌≡◌, ℕ, List, [], ◌∷◌, ◌++◌, Bool, true, false, Option, Some, None, if◌then◌else◌, refl, sym, ap, subst, ◌∙◌, append_assoc}
+use Rattle.std.proofs.Common.{arith, ◌≡◌, ℕ, List, [], ◌∷◌, ◌++◌, Bool, true, false, Option, Some, refl, sym, ap, subst, ◌∙◌, append_assoc}
 use Rattle.std.specs.Prelude.{encode_utf8, encode_utf8_all, option_and_then, chars}
 use Rattle.std.specs.Option.{option_map}
 use Rattle.std.specs.List.{list_all}
 use Rattle.std.specs.Char.{is_whitespace}
-use Rattle.std.proofs.lemmas.Bool.{and_parts, false≢true, not-true}
+use Rattle.std.proofs.lemmas.Bool.{and_parts, false≢true}
 use Rattle.std.proofs.lemmas.Bool.Decides.{nat_tests}
 use Rattle.std.proofs.lemmas.List.{append-nil}
 use Rattle.std.proofs.lemmas.Str.{encodes-append}
@@ -13,13 +13,13 @@ use Rattle.amr_labels.specs.declared.matcher.Operator.TheVariants.{Equal}
 use Rattle.amr_labels.specs.declared.matcher.matcher_steps.Kind.{Kind}
 use Rattle.amr_labels.specs.declared.matcher.matcher_steps.Kind.TheVariants.{Blank, Comma, Quote, Plain}
 use Rattle.amr_labels.specs.declared.matcher.matcher_steps.Mode.{Mode}
-use Rattle.amr_labels.specs.declared.matcher.matcher_steps.Mode.TheVariants.{Start, Opened, NameLiteral, NameOpened, NameQuoted, NameEscape, AfterName, AfterEquals, ValueStart, ValueLiteral, ValueQuoted, ValueEscape, AfterValue, AfterComma, Closed}
-use Rattle.amr_labels.specs.declared.matcher.matcher_steps.Part.TheVariants.{Nothing, Name, NameEscaped, Value, ValueEscaped, End}
+use Rattle.amr_labels.specs.declared.matcher.matcher_steps.Mode.TheVariants.{Start, Opened, NameLiteral, NameOpened, NameQuoted, AfterName, AfterEquals, ValueStart, ValueLiteral, ValueQuoted, AfterValue, AfterComma, Closed}
+use Rattle.amr_labels.specs.declared.matcher.matcher_steps.Part.TheVariants.{Nothing, Name, Value, End}
 use Rattle.amr_labels.specs.declared.matcher.matcher_steps.Step.{Step}
 use Rattle.amr_labels.specs.Labels.{Text}
 use Rattle.amr_labels.specs.Matcher.Matchers.{Matcher}
-use Rattle.amr_labels.specs.Matcher.MatcherText.{is_literal, is_refused, Piece, Character, Escape, piece_text, piece_value, is_piece, pieces_text, pieces_value, Term, Literal, Quoted, term_text, term_value, is_term, is_name, operator_text, is_blank, Written, written_text, written_matcher, IsWritten, Listed, Alone, Last, Then, listed_text, listed_matchers, IsListed, Whole, Bare, Braced, whole_text, whole_matchers, IsWhole, Spells}
-use Rattle.amr_labels.specs.Matcher.MatcherReading.{Reading, kind_of, begins_matcher, after_name, ends_value, begins_value, in_name, in_value, after_bang, after_equals, at_start, after_braces, in_quotes, step_at, step_from, with_part, next, run, start, ending, matchers_at_end, matchers_of_chars, matchers_of, go}
+use Rattle.amr_labels.specs.Matcher.MatcherText.{is_literal, Piece, piece_text, piece_value, is_piece, pieces_text, pieces_value, Term, Literal, Quoted, term_text, term_value, is_term, is_name, operator_text, is_blank, Written, written_text, written_matcher, IsWritten, Listed, Alone, Last, Then, listed_text, listed_matchers, IsListed, Whole, Bare, Braced, whole_text, whole_matchers, IsWhole, Spells}
+use Rattle.amr_labels.specs.Matcher.MatcherReading.{Reading, kind_of, begins_matcher, after_name, ends_value, begins_value, in_name, in_value, after_bang, after_equals, at_start, after_braces, step_at, step_from, with_part, next, run, start, ending, matchers_at_end, matchers_of_chars, matchers_of, go}
 use Rattle.amr_labels.specs.Matcher.MatcherLaws.{SpelledIsRead}
 use Rattle.amr_labels.proofs.MatcherLemmas.MatcherKinds.{kind_of_blank, kind_of_literal}
 
@@ -46,43 +46,28 @@ run_blanks r rests (c ∷ space) rest w =
 -- over a literal, if each of its characters is added to the text that is read
 run_literal : (at : Text → Reading) → ((t : Text) (c : ℕ) (rest : List ℕ) → is_literal c ≡ true → run (Some (at t)) (c ∷ rest) ≡ run (Some (at (t ++ encode_utf8 c))) rest) →
     (cs : List ℕ) (t : Text) (rest : List ℕ) → list_all is_literal cs ≡ true → run (Some (at t)) (cs ++ rest) ≡ run (Some (at (t ++ encode_utf8_all cs))) rest
-run_literal at more [] t rest h = ap (λ s. run (Some (at s)) rest) (sym (append-nil t))
+run_literal at more [] t rest h = grind (arith, append-nil {A = ℕ})
 run_literal at more (c ∷ cs) t rest h =
     let parts = and_parts (is_literal c) (list_all is_literal cs) h in
-    more t c (cs ++ rest) parts.0 ∙ run_literal at more cs (t ++ encode_utf8 c) rest parts.1
-    ∙ ap (λ s. run (Some (at s)) rest) (append_assoc t (encode_utf8 c) (encode_utf8_all cs))
+    let this = more t c (cs ++ rest) parts.0 in
+    cc (run_literal at more cs (t ++ encode_utf8 c) rest parts.1, append_assoc t (encode_utf8 c) (encode_utf8_all cs))
 
 -- texts in quotes
-quoted_plain : (c : ℕ) (ended : Option Step) (escape : Mode) (plain : Option Step) → is_piece (Character c) ≡ true → in_quotes ended escape plain c ≡ plain
-quoted_plain c ended escape plain h = grind (arith, nat_tests)
-
-one : (t : Text) (c : ℕ) → t ++ encode_utf8 c ≡ t ++ encode_utf8_all (c ∷ [])
-one t c = ap (λ e. t ++ e) (sym (append-nil (encode_utf8 c)))
-
 name_piece : (b : Bool) (o : Operator) (v : Text) (ms : List Matcher) (n : Text) (piece : Piece) (rest : List ℕ) → is_piece piece ≡ true →
     run (Some (reading b NameQuoted n o v ms)) (piece_text piece ++ rest) ≡ run (Some (reading b NameQuoted (n ++ encode_utf8_all (piece_value piece)) o v ms)) rest
 unfolding step_from with_part
-name_piece b o v ms n (Character c) rest h =
-    ap (λ s. run (moved (reading b NameQuoted n o v ms) s) rest) (quoted_plain c _ _ _ h) ∙ ap (λ t. run (Some (reading b NameQuoted t o v ms)) rest) (one n c)
-name_piece b o v ms n (Escape c) rest h =
-    ap (λ r. run (moved (reading b NameEscape n o v ms) (if r then None else go NameQuoted (NameEscaped c))) rest) (not-true (is_refused c) h)
+name_piece b o v ms n piece rest h = grind (arith, nat_tests, append-nil {A = ℕ})
 
 value_piece : (b : Bool) (n : Text) (o : Operator) (ms : List Matcher) (v : Text) (piece : Piece) (rest : List ℕ) → is_piece piece ≡ true →
     run (Some (reading b ValueQuoted n o v ms)) (piece_text piece ++ rest) ≡ run (Some (reading b ValueQuoted n o (v ++ encode_utf8_all (piece_value piece)) ms)) rest
 unfolding step_from with_part
-value_piece b n o ms v (Character c) rest h =
-    ap (λ s. run (moved (reading b ValueQuoted n o v ms) s) rest) (quoted_plain c _ _ _ h) ∙ ap (λ t. run (Some (reading b ValueQuoted n o t ms)) rest) (one v c)
-value_piece b n o ms v (Escape c) rest h =
-    ap (λ r. run (moved (reading b ValueEscape n o v ms) (if r then None else go ValueQuoted (ValueEscaped c))) rest) (not-true (is_refused c) h)
+value_piece b n o ms v piece rest h = grind (arith, nat_tests, append-nil {A = ℕ})
 
 -- the first piece of a name is read as the others are
 opened_as_quoted : (piece : Piece) (ps : List Piece) (b : Bool) (n : Text) (o : Operator) (v : Text) (ms : List Matcher) (rest : List ℕ) → is_piece piece ≡ true →
     run (Some (reading b NameOpened n o v ms)) (pieces_text (piece ∷ ps) ++ rest) ≡ run (Some (reading b NameQuoted n o v ms)) (pieces_text (piece ∷ ps) ++ rest)
 unfolding step_from with_part
-opened_as_quoted (Character c) ps b n o v ms rest h =
-    ap (λ s. run (moved (reading b NameOpened n o v ms) s) (pieces_text ps ++ rest)) (quoted_plain c _ _ _ h)
-    ∙ sym (ap (λ s. run (moved (reading b NameQuoted n o v ms) s) (pieces_text ps ++ rest)) (quoted_plain c _ _ _ h))
-opened_as_quoted (Escape c) ps b n o v ms rest h = refl
+opened_as_quoted piece ps b n o v ms rest h = grind (arith, nat_tests)
 
 pub pieces_encoded : (t : Text) (piece : Piece) (ps : List Piece) → (t ++ encode_utf8_all (piece_value piece)) ++ encode_utf8_all (pieces_value ps) ≡ t ++ encode_utf8_all (pieces_value (piece ∷ ps))
 pieces_encoded t piece ps =
@@ -164,49 +149,35 @@ after_operator Equal = AfterEquals
 after_operator _ = ValueStart
 
 after_operator-starts : (operator : Operator) → starts_value (after_operator operator) ≡ true
-after_operator-starts Equal = refl
-after_operator-starts _ = refl
+after_operator-starts operator = grind arith
 
 operator_there : (b : Bool) (p : Mode) (operator : Operator) (n : Text) (o : Operator) (v : Text) (ms : List Matcher) (rest : List ℕ) → is_named p ≡ true →
     run (Some (reading b p n o v ms)) (operator_text operator ++ rest) ≡ run (Some (reading b (after_operator operator) n operator v ms)) rest
 unfolding kind_of in_name after_name after_bang after_equals step_from with_part
-operator_there b NameLiteral Equal n o v ms rest h = refl
-operator_there b AfterName Equal n o v ms rest h = refl
-operator_there b _ operator n o v ms rest h = cc
+operator_there b p operator n o v ms rest h = grind arith
 
 named_blank : (b : Bool) (p : Mode) (c : ℕ) → is_named p ≡ true → step_at b p c Blank ≡ go AfterName Nothing
 unfolding in_name after_name
-named_blank b NameLiteral c h = refl
-named_blank b _ c h = cc
-
-run_operator : (space : List ℕ) (operator : Operator) (b : Bool) (p : Mode) (n : Text) (o : Operator) (v : Text) (ms : List Matcher) (rest : List ℕ) → is_named p ≡ true → is_blank space ≡ true →
-    run (Some (reading b p n o v ms)) (space ++ (operator_text operator ++ rest)) ≡ run (Some (reading b (after_operator operator) n operator v ms)) rest
-unfolding after_name with_part
-run_operator [] operator b p n o v ms rest h w = operator_there b p operator n o v ms rest h
-run_operator (c ∷ space) operator b p n o v ms rest h w =
-    let parts = and_parts (is_whitespace c) (list_all is_whitespace space) w in
-    run_by (reading b p n o v ms) c Blank _ (space ++ (operator_text operator ++ rest)) (kind_of_blank c parts.0) (named_blank b p c h)
-    ∙ run_blanks (reading b AfterName n o v ms) (λ d. refl) space (operator_text operator ++ rest) parts.1
-    ∙ operator_there b AfterName operator n o v ms rest refl
+named_blank b p c h = grind arith
 
 -- where a value may begin
 started : (b : Bool) (p : Mode) (c : ℕ) → starts_value p ≡ true →
     (step_at b p c Blank ≡ go ValueStart Nothing) × (step_at b p c Plain ≡ go ValueLiteral (Value c)) × (step_at b p c Quote ≡ go ValueQuoted Nothing) × (ends_a_value p ≡ true)
 unfolding after_equals begins_value ends_value
-started b AfterEquals c h = (refl, refl, refl, refl)
-started b _ c h = (cc, cc, cc, cc)
+started b p c h = grind arith
 
-lead_blanks : (space : List ℕ) (b : Bool) (p : Mode) (n : Text) (o : Operator) (v : Text) (ms : List Matcher) → starts_value p ≡ true → is_blank space ≡ true →
-    Leads (reading b p n o v ms) space starts_value (λ q. reading b q n o v ms)
-unfolding begins_value ends_value with_part
-lead_blanks [] b p n o v ms h w = (p, h, λ rest. refl)
-lead_blanks (c ∷ space) b p n o v ms h w =
+-- over white space, to the state that it leads to
+lead_blanks : (space : List ℕ) (at : Mode → Bool) (b : Bool) (p q : Mode) (n : Text) (o : Operator) (v : Text) (ms : List Matcher) → at p ≡ true → at q ≡ true →
+    ((c : ℕ) → (step_at b p c Blank ≡ go q Nothing) × (step_at b q c Blank ≡ go q Nothing)) → is_blank space ≡ true → Leads (reading b p n o v ms) space at (λ q. reading b q n o v ms)
+unfolding with_part
+lead_blanks [] at b p q n o v ms h k steps w = (p, h, λ rest. refl)
+lead_blanks (c ∷ space) at b p q n o v ms h k steps w =
     let parts = and_parts (is_whitespace c) (list_all is_whitespace space) w in (
-      ValueStart,
-      refl,
+      q,
+      k,
       λ rest.
-          run_by (reading b p n o v ms) c Blank _ (space ++ rest) (kind_of_blank c parts.0) (started b p c h).0
-          ∙ run_blanks (reading b ValueStart n o v ms) (λ d. refl) space rest parts.1,
+          run_by (reading b p n o v ms) c Blank _ (space ++ rest) (kind_of_blank c parts.0) (steps c).0
+          ∙ run_blanks (reading b q n o v ms) (λ d. (steps d).1) space rest parts.1,
     )
 
 run_term : (value : Term) (b : Bool) (p : Mode) (n : Text) (o : Operator) (v : Text) (ms : List Matcher) → starts_value p ≡ true → is_term value ≡ true →
@@ -238,32 +209,15 @@ after_space p = AfterValue
 
 -- where a value may end
 ended : (b : Bool) (p : Mode) (c : ℕ) → ends_a_value p ≡ true →
-    (step_at b p c Blank ≡ go (after_space p) Nothing) × (step_at b (after_space p) c Blank ≡ go (after_space p) Nothing) × (ends_a_value (after_space p) ≡ true)
-    × (step_at b p c Comma ≡ go AfterComma End)
+    ((step_at b p c Blank ≡ go (after_space p) Nothing) × (step_at b (after_space p) c Blank ≡ go (after_space p) Nothing)) × (ends_a_value (after_space p) ≡ true) × (step_at b p c Comma ≡ go AfterComma End)
 unfolding after_equals begins_value ends_value in_value
-ended b AfterEquals c h = (refl, refl, refl, refl)
-ended b _ c h = (cc, cc, cc, cc)
+ended b p c h = grind arith
 
 value_ends : (b : Bool) (p : Mode) (n : Text) (o : Operator) (v : Text) (ms : List Matcher) → ends_a_value p ≡ true →
     Ends b (reading b p n o v ms) (ms ++ record { name = n; operator = o; value = v } ∷ [])
 unfolding kind_of after_equals begins_value ends_value in_value step_from with_part ending
-value_ends false AfterEquals n o v ms h = refl
-value_ends true AfterEquals n o v ms h = ([], o, [], refl)
-value_ends false _ n o v ms h = cc
-value_ends true _ n o v ms h = ([], o, [], cc)
-
-trail_blanks : (space : List ℕ) (b : Bool) (p : Mode) (n : Text) (o : Operator) (v : Text) (ms : List Matcher) → ends_a_value p ≡ true → is_blank space ≡ true →
-    Leads (reading b p n o v ms) space ends_a_value (λ q. reading b q n o v ms)
-unfolding with_part
-trail_blanks [] b p n o v ms h w = (p, h, λ rest. refl)
-trail_blanks (c ∷ space) b p n o v ms h w =
-    let parts = and_parts (is_whitespace c) (list_all is_whitespace space) w in (
-      after_space p,
-      (ended b p c h).2,
-      λ rest.
-          run_by (reading b p n o v ms) c Blank _ (space ++ rest) (kind_of_blank c parts.0) (ended b p c h).0
-          ∙ run_blanks (reading b (after_space p) n o v ms) (λ d. (ended b p d h).1) space rest parts.1,
-    )
+value_ends false p n o v ms h = grind arith
+value_ends true p n o v ms h = ([], o, [], grind arith)
 
 pub grouped : (a b c d e f g rest : List ℕ) → (a ++ (b ++ (c ++ (d ++ (e ++ (f ++ g)))))) ++ rest ≡ a ++ (b ++ (c ++ (d ++ (e ++ (f ++ (g ++ rest))))))
 grouped a b c d e f g rest = simp append_assoc
@@ -271,20 +225,24 @@ grouped a b c d e f g rest = simp append_assoc
 -- a matcher
 run_written : (w : Written) (b : Bool) (p : Mode) (o : Operator) (ms : List Matcher) → Begins b p → IsWritten w →
     Leads (reading b p [] o [] ms) (written_text w) ends_a_value (λ q. reading b q (encode_utf8_all (term_value w.name)) w.operator (encode_utf8_all (term_value w.value)) ms)
+unfolding after_name begins_value ends_value
 run_written w b p o ms h is =
     let n = encode_utf8_all (term_value w.name) in
     let v = encode_utf8_all (term_value w.value) in
     let named = run_named b p o ms w.name h is.1 in
-    let lead = lead_blanks w.before_value b (after_operator w.operator) n w.operator [] ms (after_operator-starts w.operator) is.3 in
+    let spaced = lead_blanks w.after_name is_named b named.0 AfterName n o [] ms named.1 refl (λ c. (named_blank b named.0 c named.1, refl)) is.2 in
+    let starts = after_operator-starts w.operator in
+    let lead = lead_blanks w.before_value starts_value b (after_operator w.operator) ValueStart n w.operator [] ms starts refl (λ c. ((started b (after_operator w.operator) c starts).0, refl)) is.3 in
     let term = run_term w.value b lead.0 n w.operator [] ms lead.1 is.4 in
-    let trail = trail_blanks w.after b term.0 n w.operator v ms term.1 is.5 in (
+    let trail = lead_blanks w.after ends_a_value b term.0 (after_space term.0) n w.operator v ms term.1 (ended b term.0 0 term.1).1 (λ c. (ended b term.0 c term.1).0) is.5 in (
       trail.0,
       trail.1,
       λ rest.
           ap (run (Some (reading b p [] o [] ms))) (grouped w.before (term_text w.name) w.after_name (operator_text w.operator) w.before_value (term_text w.value) w.after rest)
           ∙ run_blanks (reading b p [] o [] ms) (λ c. (h.0 c).0) w.before _ is.0
           ∙ named.2 _
-          ∙ run_operator w.after_name w.operator b named.0 n o [] ms _ named.1 is.2
+          ∙ spaced.2 _
+          ∙ operator_there b spaced.0 w.operator n o [] ms _ spaced.1
           ∙ lead.2 _
           ∙ term.2 _
           ∙ trail.2 rest,
@@ -317,7 +275,7 @@ run_listed (Then w l) b p o ms h is =
       λ rest.
           ap (run (Some (reading b p [] o [] ms))) (append_assoc (written_text w) (44 ∷ listed_text l) rest)
           ∙ t.2 (44 ∷ (listed_text l ++ rest))
-          ∙ run_by (reading b t.0 n w.operator v ms) 44 Comma _ (listed_text l ++ rest) refl (ended b t.0 44 t.1).3
+          ∙ run_by (reading b t.0 n w.operator v ms) 44 Comma _ (listed_text l ++ rest) refl (ended b t.0 44 t.1).2
           ∙ next_ones.2 rest,
     )
 

@@ -1,5 +1,5 @@
 -- Matchers that match a label set ask for no bit that its values don't have.
-use Rattle.std.proofs.Common.{◌≡◌, ℕ, true, false, cond, List, [], ◌∷◌, Option, Some, arith, refl, sym, ap, subst, ◌∙◌}
+use Rattle.std.proofs.Common.{◌≡◌, ℕ, true, false, List, [], ◌∷◌, Option, arith, sym, ap, subst, ◌∙◌}
 use Rattle.std.specs.Prelude.{fold, bit_or}
 use Rattle.std.specs.Int.Bits.{or_self, or_zero_l}
 use Rattle.std.proofs.lemmas.Bool.{and_parts}
@@ -8,13 +8,11 @@ use Rattle.std.proofs.lemmas.Map.Views.{tells_apart}
 use Rattle.std.proofs.lemmas.Nat.{or_comm}
 use Rattle.std.proofs.lemmas.Nat.Bits.{bit_at_or, same_from_bits}
 use Rattle.std.specs.Option.{unwrap_or}
-use Rattle.std.specs.Ordering.{is_eq}
 use Rattle.std.specs.FinMap.{find}
 use Rattle.amr_labels.specs.Map.{entries, get-entries}
 use Rattle.amr_labels.specs.Labels.{Text, LabelSet, text_cmp, text_cmp-IsAntisymmetric, is_empty, value_of}
-use Rattle.amr_labels.specs.declared.matcher.Operator.TheVariants.{Equal}
-use Rattle.amr_labels.specs.Matcher.Matchers.{Matcher, compares, holds, all_hold}
-use Rattle.amr_labels.specs.Matcher.ValueBits.{value_bit, value_bits, bits_asked, required_bit, required_bits}
+use Rattle.amr_labels.specs.Matcher.Matchers.{Matcher, holds, all_hold}
+use Rattle.amr_labels.specs.Matcher.ValueBits.{value_bit, value_bits, required_bit, required_bits}
 
 or_assoc : (a b c : ℕ) → bit_or (bit_or a b) c ≡ bit_or a (bit_or b c)
 or_assoc a b c = same_from_bits _ _ (λ i. simp bit_at_or (grind (arith, nat_tests)))
@@ -47,11 +45,7 @@ found_marked : (name : Text) (bits : ℕ) (labels : List (Text × Text)) → is_
     → within (fold (λ bits label. bit_or bits (value_bit label.1)) bits labels) (value_bit (or_empty (find text_cmp name labels)))
 found_marked name bits [] h = absurd (cc h)
 found_marked name bits (label ∷ labels) h =
-    elim (is_eq (text_cmp name label.0)) as (λ b. is_empty (or_empty (cond b (Some label.1) (find text_cmp name labels))) ≡ false
-    → within (fold (λ bits label. bit_or bits (value_bit label.1)) (bit_or bits (value_bit label.1)) labels) (value_bit (or_empty (cond b (Some label.1) (find text_cmp name labels))))) [
-      | true ↦ λ h. stays (value_bit label.1) (bit_or bits (value_bit label.1)) labels (within_own bits (value_bit label.1))
-      | false ↦ λ h. found_marked name (bit_or bits (value_bit label.1)) labels h
-    ] h
+    grind (arith, stays (value_bit label.1) (bit_or bits (value_bit label.1)) labels (within_own bits (value_bit label.1)), found_marked name (bit_or bits (value_bit label.1)) labels)
 
 value_bited : (labels : LabelSet) (name : Text) → is_empty (value_of labels name) ≡ false → within (value_bits labels) (value_bit (value_of labels name))
 value_bited labels name h =
@@ -65,15 +59,8 @@ none_asked bits = or_comm bits 0 ∙ or_zero_l bits
 
 asked_marked : (labels : LabelSet) (matcher : Matcher) → holds matcher labels ≡ true → within (value_bits labels) (required_bit matcher)
 asked_marked labels matcher h =
-    elim matcher.operator as (λ o. compares o matcher.value (value_of labels matcher.name) ≡ true → within (value_bits labels) (bits_asked o matcher.value)) [
-      | Equal ↦ λ h.
-          let own : value_of labels matcher.name ≡ matcher.value = tells_apart text_cmp-IsAntisymmetric (value_of labels matcher.name) matcher.value h in
-          elim (is_empty matcher.value) as (λ b. is_empty matcher.value ≡ b → within (value_bits labels) (cond b 0 (value_bit matcher.value))) [
-            | true ↦ λ e. none_asked (value_bits labels)
-            | false ↦ λ e. subst (λ (v : Text). within (value_bits labels) (value_bit v)) own (value_bited labels matcher.name (ap is_empty own ∙ e))
-          ] refl
-      | _ ↦ λ h. none_asked (value_bits labels)
-    ] h
+    let own = tells_apart text_cmp-IsAntisymmetric (value_of labels matcher.name) matcher.value in
+    grind (arith, own, value_bited labels matcher.name, none_asked (value_bits labels))
 
 all_asked : (labels : LabelSet) (bits : ℕ) (matchers : List Matcher) → within (value_bits labels) bits → all_hold matchers labels ≡ true
     → within (value_bits labels) (fold (λ bits matcher. bit_or bits (required_bit matcher)) bits matchers)

@@ -1,5 +1,5 @@
 -- A pattern is found without its groups exactly where it is found with them.
-use Rattle.std.proofs.Common.{◌≡◌, ℕ, zero, suc, ◌-◌, Bool, true, false, cond, ◌||◌, List, [], ◌∷◌, map, Option, Some, None, IsSome, is_some, option_map, refl, sym, ap, ap₂, ◌∙◌, ◌⊎◌, subst}
+use Rattle.std.proofs.Common.{arith, ◌≡◌, ℕ, zero, suc, ◌-◌, Bool, cond, ◌||◌, List, [], ◌∷◌, map, Option, Some, None, IsSome, is_some, option_map, refl, sym, ap, ap₂, ◌∙◌, ◌⊎◌, subst}
 use Rattle.std.specs.Cmp.{both_ways}
 use Rattle.std.specs.Option.{option_or}
 use Rattle.regex_hir.specs.Re.{Re, cat, alt, group, plus, Trace, Rest, accept, attempt}
@@ -36,13 +36,11 @@ found_at hay re i =
     (found_too hay re (without_groups re) i (λ j. subst (λ X. X) (sym (same_matches hay re i j))))
 
 some_if : {A : Type 0} (b : Bool) (o p : Option A) → is_some o ≡ is_some p → is_some (cond b o None) ≡ is_some (cond b p None)
-some_if true o p same = same
-some_if false o p same = refl
+some_if b o p same = grind arith
 
 some_or : (i : ℕ) (o : Option Trace) (later : Option Match) →
     is_some (option_or (option_map (λ t. record { start = i; trace = t }) o) later) ≡ (is_some o || is_some later)
-some_or i None later = refl
-some_or i (Some t) later = refl
+some_or i o later = grind arith
 
 first_alike : (f g : Rest) → ((i : ℕ) → is_some (f i) ≡ is_some (g i)) → (n i : ℕ) → is_some (first_from f n i) ≡ is_some (first_from g n i)
 unfolding first_from
@@ -57,8 +55,7 @@ found_alike re hay = first_alike _ _ (λ i. some_if (is_boundary hay i) _ _ (fou
 -- ---- what the parts of a tree mean without their groups
 
 ungrouped_optional : (greedy : Bool) (a : Re) → without_groups (optional greedy a) ≡ optional greedy (without_groups a)
-ungrouped_optional true a = refl
-ungrouped_optional false a = refl
+ungrouped_optional greedy a = grind arith
 
 ungrouped_copies : (n : ℕ) (a b : Re) → without_groups (copies n a b) ≡ copies n (without_groups a) (without_groups b)
 ungrouped_copies zero a b = refl
