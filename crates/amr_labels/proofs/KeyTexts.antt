@@ -79,10 +79,7 @@ pub after_end : (key text ended : Text) (found : Option (Bor Text)) → pointwis
     → MatchOption found (pointwise nat_eq (take 1 ended) (0 ∷ []) ≡ false) (λ rest. (pointwise nat_eq (take 1 ended) (0 ∷ []) ≡ true) × (rest.now ≡ drop 1 ended) × (length rest.now + 1 ≡ length ended))
     → IfSome found (λ rest. key ≡ key_of_text text ++ rest.now)
 after_end key text ended None e is h = tt
-after_end key text ended (Some rest) e is h =
-    begins key text ended e is
-    ∙ ap (λ k. text ++ k) (begins ended (0 ∷ []) rest.now h.0 h.1)
-    ∙ sym (append_assoc text (0 ∷ []) rest.now)
+after_end key text ended (Some rest) e is h = cc (begins key text ended e is, begins ended (0 ∷ []) rest.now h.0 h.1, append_assoc text (0 ∷ []) rest.now)
 
 seam : (key text rest : Text) → key ≡ key_of_text text ++ rest → key ≡ text ++ (0 ∷ rest)
 seam key text rest e = e ∙ append_assoc text (0 ∷ []) rest

@@ -1,9 +1,8 @@
 -- Asking one matcher after the other is asking all of them.
-use Rattle.std.proofs.Common.{◌≡◌, ℕ, zero, suc, ◌+◌, ◌<◌, Bool, true, false, ◌&&◌, List, [], ◌∷◌, map, length, take, set, get_or, refl, sym, ap, ◌∙◌, arith, add-one, eq-eqb}
+use Rattle.std.proofs.Common.{◌≡◌, ℕ, zero, suc, ◌+◌, ◌<◌, Bool, true, false, ◌&&◌, List, [], ◌∷◌, map, length, take, set, get_or, refl, ap, ◌∙◌, arith, add-one, eq-eqb}
 use Rattle.std.specs.Prelude.{◌==◌, bit_or}
 use Rattle.std.proofs.Math.Bool.{and_assoc, and-true}
 use Rattle.std.specs.List.{list_any}
-use Rattle.std.proofs.lemmas.Bool.{true≢false}
 use Rattle.amr_labels.specs.Labels.{LabelSet}
 use Rattle.amr_labels.specs.Matcher.Matchers.{Matcher, holds, all_hold}
 use Rattle.amr_labels.specs.Matcher.Candidates.{candidates_by_bits, candidates_after, kept_by, kept_by_all, matches_each}
@@ -45,8 +44,7 @@ pub tested_in_vain : (test : LabelSet → Bool) (label_sets : List LabelSet) (ca
     → candidates_after test label_sets candidates ≡ candidates
 tested_in_vain test [] candidates none = refl
 tested_in_vain test (labels ∷ label_sets) [] none = refl
-tested_in_vain test (labels ∷ label_sets) (true ∷ candidates) none = absurd (true≢false none)
-tested_in_vain test (labels ∷ label_sets) (false ∷ candidates) none = ap (λ kept. false ∷ kept) (tested_in_vain test label_sets candidates none)
+tested_in_vain test (labels ∷ label_sets) (mark ∷ candidates) none = grind (arith, tested_in_vain test label_sets candidates)
 
 -- no matcher is left, so all stay
 pub kept_by_none : (label_sets : List LabelSet) (candidates : List Bool) → kept_by_all [] label_sets candidates ≡ candidates
@@ -78,5 +76,4 @@ pub marked_more : (test : LabelSet → Bool) (label_sets : List LabelSet) (candi
     → labels ≡ get_or label_sets index labels → mark ≡ (get_or so_far index false && test labels)
     → set so_far index mark ≡ candidates_after test (take (index + 1) label_sets) candidates
 marked_more test label_sets candidates so_far index mark labels lt same is there changed =
-    (λ i. set (is i) index ((changed ∙ (λ j. get_or (is j) index false && test (there j))) i)) ∙ mark_next test label_sets candidates index labels lt same
-    ∙ ap (λ count. candidates_after test (take count label_sets) candidates) (sym (add-one index))
+    rw (changed, is, there, add-one) (mark_next test label_sets candidates index labels lt same)

@@ -17,7 +17,7 @@ use Rattle.amr_labels.specs.declared.matcher.matcher_steps.Step.{Step}
 use Rattle.amr_labels.specs.Labels.{Text}
 use Rattle.amr_labels.specs.Matcher.Matchers.{Matcher}
 use Rattle.amr_labels.specs.Matcher.MatcherText.{is_literal, is_refused, meaning_of_escape, Piece, Character, Escape, is_piece, pieces_text, pieces_value, Term, Literal, Quoted, term_text, term_value, is_term, is_name, operator_text, is_blank, Written, written_matcher, Listed, Alone, Last, Then, listed_text, listed_matchers, IsListed, Bare, Braced, Spells}
-use Rattle.amr_labels.specs.Matcher.MatcherReading.{Reading, kind_of, begins_matcher, after_name, ends_value, begins_value, in_name, in_value, after_bang, after_equals, at_start, after_braces, step_from, with_part, run, ending, matchers_at_end, matchers_of_chars, matchers_of, go}
+use Rattle.amr_labels.specs.Matcher.MatcherReading.{Reading, kind_of, begins_matcher, after_name, ends_value, begins_value, in_name, in_value, after_bang, after_equals, at_start, after_braces, step_at, step_from, with_part, run, ending, matchers_at_end, matchers_of_chars, matchers_of, go}
 use Rattle.amr_labels.specs.Matcher.MatcherLaws.{ReadIsSpelled}
 use Rattle.amr_labels.proofs.MatcherLemmas.MatcherRuns.{run-none}
 use Rattle.amr_labels.proofs.MatcherLemmas.MatcherKinds.{means}
@@ -46,25 +46,13 @@ abbrev Back : Bool → List ℕ → Type 0
 Back false back = back ≡ []
 Back true back = (space : List ℕ) × (back ≡ 125 ∷ space) × (is_blank space ≡ true)
 
--- a comma and more matchers, or nothing
-abbrev more_text : Option Listed → List ℕ
-more_text None = []
-more_text (Some l) = 44 ∷ listed_text l
-
-abbrev more_matchers : Option Listed → List Matcher
-more_matchers None = []
-more_matchers (Some l) = listed_matchers l
-
-abbrev IsMore : Option Listed → Type 0
-IsMore None = Unit {0}
-IsMore (Some l) = IsListed l
-
 abbrev FollowsListed : Bool → List Matcher → List ℕ → List Matcher → Type 0
 FollowsListed b ms cs out = (l : Listed) × (back : List ℕ) × IsListed l × (cs ≡ listed_text l ++ back) × Back b back × (out ≡ ms ++ listed_matchers l)
 
+-- the end, or a comma and more matchers
 abbrev FollowsValue : Bool → List Matcher → List ℕ → List Matcher → Type 0
 FollowsValue b ms cs out =
-    (space : List ℕ) × (more : Option Listed) × (back : List ℕ) × (is_blank space ≡ true) × IsMore more × (cs ≡ space ++ (more_text more ++ back)) × Back b back × (out ≡ ms ++ more_matchers more)
+    (space : List ℕ) × (rest : List ℕ) × (is_blank space ≡ true) × (cs ≡ space ++ rest) × ((Back b rest × (out ≡ ms)) ⊎ ((more : List ℕ) × (rest ≡ 44 ∷ more) × FollowsListed b ms more out))
 
 -- where P follows a text with what was read: after more characters of a literal, after pieces in
 -- quotes, and after at least one piece
@@ -112,8 +100,7 @@ Follows b NameOpened n o v ms cs out = AfterPiece (ByName b v ms out) n cs
 Follows b NameQuoted n o v ms cs out = AfterPieces (ByName b v ms out) n cs
 Follows b NameEscape n o v ms cs out = FollowsBackslash (ByName b v ms out) n cs
 Follows b AfterName n o v ms cs out = FollowsName b n v ms cs out
-Follows b AfterBang n o v ms cs out =
-    ((rest : List ℕ) × (cs ≡ 61 ∷ rest) × FollowsOperator b n NotEqual v ms rest out) ⊎ ((rest : List ℕ) × (cs ≡ 126 ∷ rest) × FollowsOperator b n NotMatches v ms rest out)
+Follows b AfterBang n o v ms cs out = (operator : Operator) × (rest : List ℕ) × (33 ∷ cs ≡ operator_text operator ++ rest) × FollowsOperator b n operator v ms rest out
 Follows b AfterEquals n o v ms cs out = ((rest : List ℕ) × (cs ≡ 126 ∷ rest) × FollowsOperator b n Matches v ms rest out) ⊎ FollowsOperator b n o v ms cs out
 Follows b ValueStart n o v ms cs out = FollowsOperator b n o v ms cs out
 Follows b ValueLiteral n o v ms cs out = AfterLiteral (ByValue b n o ms out) v cs
@@ -132,7 +119,7 @@ spaced : (c : ℕ) (space : List ℕ) → is_whitespace c ≡ true → is_blank 
 spaced c space h w = and_from (is_whitespace c) (list_all is_whitespace space) h w
 
 spaced_value : (b : Bool) (ms : List Matcher) (c : ℕ) (cs : List ℕ) (out : List Matcher) → is_whitespace c ≡ true → FollowsValue b ms cs out → FollowsValue b ms (c ∷ cs) out
-spaced_value b ms c cs out h f = (c ∷ f.0, f.1, f.2, spaced c f.0 h f.3, f.4, ap (λ t. c ∷ t) f.5, f.6, f.7)
+spaced_value b ms c cs out h f = (c ∷ f.0, f.1, spaced c f.0 h f.2, ap (λ t. c ∷ t) f.3, f.4)
 
 spaced_listed : (b : Bool) (ms : List Matcher) (c : ℕ) (cs : List ℕ) (out : List Matcher) → is_whitespace c ≡ true → FollowsListed b ms cs out → FollowsListed b ms (c ∷ cs) out
 spaced_listed b ms c cs out h (Alone space, back, is, e, end, same) = (Alone (c ∷ space), back, spaced c space h is, ap (λ t. c ∷ t) e, end, same)
@@ -144,12 +131,12 @@ spaced_listed b ms c cs out h (Then w l, back, is, e, end, same) =
 -- a name and what follows it are a matcher and what follows it
 assembled : (b : Bool) (ms : List Matcher) (name : Term) (cs rest : List ℕ) (out : List Matcher) → is_name name ≡ true → cs ≡ term_text name ++ rest →
     FollowsName b (encode_utf8_all (term_value name)) [] ms rest out → FollowsListed b ms cs out
-assembled b ms name cs rest out is e (s1, operator, r2, b1, e2, (s2, value, r3, b2, t, e3, (s3, None, back, b3, m, e4, end, same))) =
+assembled b ms name cs rest out is e (s1, operator, r2, b1, e2, (s2, value, r3, b2, t, e3, (s3, rest', b3, e4, inl (end, same)))) =
     let w : Written = record { before = []; name = name; after_name = s1; operator = operator; before_value = s2; value = value; after = s3 } in
-    (Last w, back, (refl, is, b1, b2, t, b3), rw (e, e2, e3, e4) (simp append_assoc), end, same ∙ append-nil (ms ++ written_matcher w ∷ []))
-assembled b ms name cs rest out is e (s1, operator, r2, b1, e2, (s2, value, r3, b2, t, e3, (s3, Some l, back, b3, m, e4, end, same))) =
+    (Last w, rest', (refl, is, b1, b2, t, b3), rw (e, e2, e3, e4) (simp append_assoc), end, same)
+assembled b ms name cs rest out is e (s1, operator, r2, b1, e2, (s2, value, r3, b2, t, e3, (s3, rest', b3, e4, inr (more, e5, (l, back, m, e6, end, same))))) =
     let w : Written = record { before = []; name = name; after_name = s1; operator = operator; before_value = s2; value = value; after = s3 } in
-    (Then w l, back, ((refl, is, b1, b2, t, b3), m), rw (e, e2, e3, e4) (simp append_assoc), end, same ∙ append_assoc ms (written_matcher w ∷ []) (listed_matchers l))
+    (Then w l, back, ((refl, is, b1, b2, t, b3), m), rw (e, e2, e3, e4, e5, e6) (simp append_assoc), end, same ∙ append_assoc ms (written_matcher w ∷ []) (listed_matchers l))
 
 -- what comes in front of a literal or of pieces
 module _ (P : Text → List ℕ → Type 0) (t : Text) where
@@ -196,6 +183,12 @@ module _ (P : Text → List ℕ → Type 0) (t : Text) where
         subst (λ x. P x g.1) (append_assoc t (encode_utf8 c) (encode_utf8_all (pieces_value g.0))) g.4,
       )
 
+  -- after a backslash
+  after_backslash : (r : Reading) (step : Option Step) (c : ℕ) (cs : List ℕ) (out : List Matcher) (q : Bool) → is_refused c ≡ q → Taken r (if q then None else step) cs out →
+      (Taken r step cs out → AfterPieces P (t ++ encode_utf8_all (meaning_of_escape c)) cs) → FollowsBackslash P t (c ∷ cs)
+  after_backslash r step c cs out true e h more = absurd (refused r cs out h)
+  after_backslash r step c cs out false e h more = (c, cs, refl, e, more h)
+
 -- where a matcher may begin
 begun : {X : Type 0} (b : Bool) (here : Mode) (o : Operator) (ms : List Matcher) (c : ℕ) (cs : List ℕ) (out : List Matcher) (k : Kind) → Known cs → kind_of c ≡ k →
     Taken (reading b here [] o [] ms) (begins_matcher b here c k) cs out →
@@ -241,22 +234,16 @@ unfolding ends_value with_part
 value_ended b here space n o v ms c cs out Blank known e h blank over = blank (means c Blank e) h
 value_ended b here space n o v ms c cs out Comma known e h blank over =
     let f = known b AfterComma [] o [] (with_matcher ms n o v) out h refl refl in
-    over ([], Some f.0, f.1, refl, f.2, cons_same c 44 cs _ (means c Comma e) f.3, f.4, f.5)
+    over ([], c ∷ cs, refl, refl, inr (cs, cons_same c 44 cs cs (means c Comma e) refl, f))
 value_ended true here space n o v ms c cs out Closing known e h blank over =
     let f = known true Closed [] o [] (with_matcher ms n o v) out h in
-    over ([], None, c ∷ cs, refl, tt, refl, (cs, cons_same c 125 cs cs (means c Closing e) refl, f.0), f.1 ∙ sym (append-nil (with_matcher ms n o v)))
+    over ([], c ∷ cs, refl, refl, inl ((cs, cons_same c 125 cs cs (means c Closing e) refl, f.0), f.1))
 value_ended b here space n o v ms c cs out _ known e h blank over = absurd (refused (reading b here n o v ms) cs out h)
 
 after_value : (b : Bool) (here : Mode) (n : Text) (o : Operator) (v : Text) (ms : List Matcher) (c : ℕ) (cs : List ℕ) (out : List Matcher) (k : Kind) → Known cs → kind_of c ≡ k →
     Taken (reading b here n o v ms) (ends_value b AfterValue k) cs out → FollowsValue b (with_matcher ms n o v) (c ∷ cs) out
 after_value b here n o v ms c cs out k known e h =
     value_ended b here AfterValue n o v ms c cs out k known e h (λ w a. spaced_value b (with_matcher ms n o v) c cs out w (known b AfterValue n o v ms out a)) (λ f. f)
-
-in_literal_value : (b : Bool) (n : Text) (o : Operator) (v : Text) (ms : List Matcher) (c : ℕ) (cs : List ℕ) (out : List Matcher) (k : Kind) → Known cs → kind_of c ≡ k →
-    Taken (reading b ValueLiteral n o v ms) (in_value b c k) cs out → AfterLiteral (ByValue b n o ms out) v (c ∷ cs)
-unfolding in_value with_part
-in_literal_value b n o v ms c cs out Plain known e h = literal_first (ByValue b n o ms out) v c cs (means c Plain e) (known b ValueLiteral n o (v ++ encode_utf8 c) ms out h)
-in_literal_value b n o v ms c cs out k known e h = no_literal (ByValue b n o ms out) v (c ∷ cs) (after_value b ValueLiteral n o v ms c cs out k known e h)
 
 -- a literal as a value
 literal_value : (b : Bool) (n : Text) (o : Operator) (v : Text) (ms : List Matcher) (cs : List ℕ) (out : List Matcher) → AfterLiteral (ByValue b n o ms out) v cs → FollowsOperator b n o v ms cs out
@@ -281,19 +268,6 @@ value_begun b here n o v ms c cs out k known e h =
     (c ∷ f.0, f.1, f.2, spaced c f.0 w f.3, f.4, ap (λ t. c ∷ t) f.5, f.6))
     (λ f. no_value b n o v ms (c ∷ cs) out f)
 
-equals_read : (b : Bool) (n : Text) (o : Operator) (v : Text) (ms : List Matcher) (c : ℕ) (cs : List ℕ) (out : List Matcher) (k : Kind) → Known cs → kind_of c ≡ k →
-    Taken (reading b AfterEquals n o v ms) (after_equals b c k) cs out → Follows b AfterEquals n o v ms (c ∷ cs) out
-unfolding after_equals with_part
-equals_read b n o v ms c cs out Tilde known e h = inl (cs, cons_same c 126 cs cs (means c Tilde e) refl, known b ValueStart n Matches v ms out h)
-equals_read b n o v ms c cs out k known e h = inr (value_begun b AfterEquals n o v ms c cs out k known e h)
-
-bang_read : (b : Bool) (n : Text) (o : Operator) (v : Text) (ms : List Matcher) (c : ℕ) (cs : List ℕ) (out : List Matcher) (k : Kind) → Known cs → kind_of c ≡ k →
-    Taken (reading b AfterBang n o v ms) (after_bang k) cs out → Follows b AfterBang n o v ms (c ∷ cs) out
-unfolding after_bang with_part
-bang_read b n o v ms c cs out Equals known e h = inl (cs, cons_same c 61 cs cs (means c Equals e) refl, known b ValueStart n NotEqual v ms out h)
-bang_read b n o v ms c cs out Tilde known e h = inr (cs, cons_same c 126 cs cs (means c Tilde e) refl, known b ValueStart n NotMatches v ms out h)
-bang_read b n o v ms c cs out _ known e h = absurd (refused (reading b AfterBang n o v ms) cs out h)
-
 -- after a name
 name_ended : (b : Bool) (here : Mode) (n : Text) (o : Operator) (v : Text) (ms : List Matcher) (c : ℕ) (cs : List ℕ) (out : List Matcher) (k : Kind) → Known cs → kind_of c ≡ k →
     Taken (reading b here n o v ms) (after_name k) cs out → FollowsName b n v ms (c ∷ cs) out
@@ -307,30 +281,9 @@ name_ended b here n o v ms c cs out Equals known e h =
       | inr f ↦ ([], Equal, cs, refl, cons_same c 61 cs _ (means c Equals e) refl, f)
     ]
 name_ended b here n o v ms c cs out Bang known e h =
-    elim (known b AfterBang n o v ms out h) [
-      | inl f ↦ ([], NotEqual, f.0, refl, cons_same c 33 cs _ (means c Bang e) f.1, f.2)
-      | inr f ↦ ([], NotMatches, f.0, refl, cons_same c 33 cs _ (means c Bang e) f.1, f.2)
-    ]
+    let f = known b AfterBang n o v ms out h in
+    ([], f.0, f.1, refl, cons_same c 33 cs cs (means c Bang e) refl ∙ f.2, f.3)
 name_ended b here n o v ms c cs out _ known e h = absurd (refused (reading b here n o v ms) cs out h)
-
-in_literal_name : (b : Bool) (n : Text) (o : Operator) (v : Text) (ms : List Matcher) (c : ℕ) (cs : List ℕ) (out : List Matcher) (k : Kind) → Known cs → kind_of c ≡ k →
-    Taken (reading b NameLiteral n o v ms) (in_name c k) cs out → AfterLiteral (ByName b v ms out) n (c ∷ cs)
-unfolding in_name with_part
-in_literal_name b n o v ms c cs out Plain known e h = literal_first (ByName b v ms out) n c cs (means c Plain e) (known b NameLiteral (n ++ encode_utf8 c) o v ms out h)
-in_literal_name b n o v ms c cs out k known e h = no_literal (ByName b v ms out) n (c ∷ cs) (name_ended b NameLiteral n o v ms c cs out k known e h)
-
--- after a backslash
-escaped : (r : Reading) (step : Option Step) (c : ℕ) (cs : List ℕ) (out : List Matcher) (q : Bool) → is_refused c ≡ q → Taken r (if q then None else step) cs out → (is_refused c ≡ false) × Taken r step cs out
-escaped r step c cs out true e h = absurd (refused r cs out h)
-escaped r step c cs out false e h = (e, h)
-
-from_closed : (b : Bool) (n : Text) (o : Operator) (v : Text) (ms : List Matcher) (c : ℕ) (cs : List ℕ) (out : List Matcher) (k : Kind) → Known cs → kind_of c ≡ k →
-    Taken (reading b Closed n o v ms) (after_braces k) cs out → Follows b Closed n o v ms (c ∷ cs) out
-unfolding after_braces with_part
-from_closed b n o v ms c cs out Blank known e h =
-    let f = known b Closed n o v ms out h in
-    (spaced c cs (means c Blank e) f.0, f.1)
-from_closed b n o v ms c cs out _ known e h = absurd (refused (reading b Closed n o v ms) cs out h)
 
 same_end : (ms out : List Matcher) → ◌≡◌ {A = Option (List Matcher)} (Some ms) (Some out) → out ≡ ms
 same_end ms out e = cc
@@ -340,7 +293,7 @@ listed_over : (ms out : List Matcher) → ◌≡◌ {A = Option (List Matcher)} 
 listed_over ms out e = (Alone [], [], refl, refl, refl, same_end ms out e ∙ sym (append-nil ms))
 
 value_over : (ms out : List Matcher) → ◌≡◌ {A = Option (List Matcher)} (Some ms) (Some out) → FollowsValue false ms [] out
-value_over ms out e = ([], None, [], refl, tt, refl, refl, same_end ms out e ∙ sym (append-nil ms))
+value_over ms out e = ([], [], refl, refl, inl (refl, same_end ms out e))
 
 at_end : Known []
 unfolding ending with_part
@@ -356,46 +309,55 @@ at_end b _ n o v ms out h = absurd (refused (reading b Start n o v ms) [] out h)
 cleared : (P : Text → Text → Type 0) (n v : Text) → n ≡ [] → v ≡ [] → P n v → P [] []
 cleared P n v e f h = subst (P []) f (subst (λ t. P t v) e h)
 
-one_more : (c : ℕ) (cs : List ℕ) → Known cs → Known (c ∷ cs)
-unfolding step_from with_part
-one_more c cs known b Start n o v ms out h = λ f g k.
-    from_start b o ms c cs out (kind_of c) known refl f (cleared (λ x y. Taken (reading b Start x o y ms) (at_start c (kind_of c)) cs out) n v g k h)
-one_more c cs known false Opened n o v ms out h = λ f g k. absurd (false≢true f)
-one_more c cs known true Opened n o v ms out h = λ f g k.
-    listed_begun true Opened o ms c cs out (kind_of c) known refl (λ a. known true Opened [] o [] ms out a refl refl refl)
-    (cleared (λ x y. Taken (reading true Opened x o y ms) (begins_matcher true Opened c (kind_of c)) cs out) n v g k h)
-one_more c cs known b NameLiteral n o v ms out h = in_literal_name b n o v ms c cs out (kind_of c) known refl h
-one_more c cs known b NameOpened n o v ms out h =
+-- one more character in each state
+stepped : (b : Bool) (p : Mode) (n : Text) (o : Operator) (v : Text) (ms : List Matcher) (c : ℕ) (cs : List ℕ) (out : List Matcher) (k : Kind) → Known cs → kind_of c ≡ k →
+    Taken (reading b p n o v ms) (step_at b p c k) cs out → Follows b p n o v ms (c ∷ cs) out
+unfolding in_name in_value after_bang after_equals after_braces with_part
+stepped b Start n o v ms c cs out k known e h = λ f g i.
+    from_start b o ms c cs out k known e f (cleared (λ x y. Taken (reading b Start x o y ms) (at_start c k) cs out) n v g i h)
+stepped false Opened n o v ms c cs out k known e h = λ f g i. absurd (false≢true f)
+stepped true Opened n o v ms c cs out k known e h = λ f g i.
+    listed_begun true Opened o ms c cs out k known e (λ a. known true Opened [] o [] ms out a refl refl refl)
+    (cleared (λ x y. Taken (reading true Opened x o y ms) (begins_matcher true Opened c k) cs out) n v g i h)
+stepped b NameLiteral n o v ms c cs out Plain known e h = literal_first (ByName b v ms out) n c cs (means c Plain e) (known b NameLiteral (n ++ encode_utf8 c) o v ms out h)
+stepped b NameLiteral n o v ms c cs out k known e h = no_literal (ByName b v ms out) n (c ∷ cs) (name_ended b NameLiteral n o v ms c cs out k known e h)
+stepped b NameOpened n o v ms c cs out k known e h =
     quoted (ByName b v ms out) n (reading b NameOpened n o v ms) None (go NameQuoted (Name c)) NameEscape c cs out (c == 34) (c == 92) refl refl h
     (known b NameEscape n o v ms out) (known b NameQuoted (n ++ encode_utf8 c) o v ms out) (λ e g. absurd (refused (reading b NameOpened n o v ms) cs out g)) (λ g. g)
-one_more c cs known b NameQuoted n o v ms out h =
+stepped b NameQuoted n o v ms c cs out k known e h =
     quoted (ByName b v ms out) n (reading b NameQuoted n o v ms) (go AfterName Nothing) (go NameQuoted (Name c)) NameEscape c cs out (c == 34) (c == 92) refl refl h
     (known b NameEscape n o v ms out) (known b NameQuoted (n ++ encode_utf8 c) o v ms out)
     (λ e g. no_pieces (ByName b v ms out) n c cs e (known b AfterName n o v ms out g)) (some_pieces (ByName b v ms out) n (c ∷ cs))
-one_more c cs known b NameEscape n o v ms out h =
-    let g = escaped (reading b NameEscape n o v ms) (go NameQuoted (NameEscaped c)) c cs out (is_refused c) refl h in
-    (c, cs, refl, g.0, known b NameQuoted (n ++ encode_utf8_all (meaning_of_escape c)) o v ms out g.1)
-one_more c cs known b AfterName n o v ms out h = name_ended b AfterName n o v ms c cs out (kind_of c) known refl h
-one_more c cs known b AfterBang n o v ms out h = bang_read b n o v ms c cs out (kind_of c) known refl h
-one_more c cs known b AfterEquals n o v ms out h = equals_read b n o v ms c cs out (kind_of c) known refl h
-one_more c cs known b ValueStart n o v ms out h = value_begun b ValueStart n o v ms c cs out (kind_of c) known refl h
-one_more c cs known b ValueLiteral n o v ms out h = in_literal_value b n o v ms c cs out (kind_of c) known refl h
-one_more c cs known b ValueQuoted n o v ms out h =
+stepped b NameEscape n o v ms c cs out k known e h =
+    after_backslash (ByName b v ms out) n (reading b NameEscape n o v ms) (go NameQuoted (NameEscaped c)) c cs out (is_refused c) refl h
+    (known b NameQuoted (n ++ encode_utf8_all (meaning_of_escape c)) o v ms out)
+stepped b AfterName n o v ms c cs out k known e h = name_ended b AfterName n o v ms c cs out k known e h
+stepped b AfterBang n o v ms c cs out Equals known e h = (NotEqual, cs, ap (λ x. 33 ∷ x ∷ cs) (means c Equals e), known b ValueStart n NotEqual v ms out h)
+stepped b AfterBang n o v ms c cs out Tilde known e h = (NotMatches, cs, ap (λ x. 33 ∷ x ∷ cs) (means c Tilde e), known b ValueStart n NotMatches v ms out h)
+stepped b AfterBang n o v ms c cs out _ known e h = absurd (refused (reading b AfterBang n o v ms) cs out h)
+stepped b AfterEquals n o v ms c cs out Tilde known e h = inl (cs, cons_same c 126 cs cs (means c Tilde e) refl, known b ValueStart n Matches v ms out h)
+stepped b AfterEquals n o v ms c cs out k known e h = inr (value_begun b AfterEquals n o v ms c cs out k known e h)
+stepped b ValueStart n o v ms c cs out k known e h = value_begun b ValueStart n o v ms c cs out k known e h
+stepped b ValueLiteral n o v ms c cs out Plain known e h = literal_first (ByValue b n o ms out) v c cs (means c Plain e) (known b ValueLiteral n o (v ++ encode_utf8 c) ms out h)
+stepped b ValueLiteral n o v ms c cs out k known e h = no_literal (ByValue b n o ms out) v (c ∷ cs) (after_value b ValueLiteral n o v ms c cs out k known e h)
+stepped b ValueQuoted n o v ms c cs out k known e h =
     quoted (ByValue b n o ms out) v (reading b ValueQuoted n o v ms) (go AfterValue Nothing) (go ValueQuoted (Value c)) ValueEscape c cs out (c == 34) (c == 92) refl refl h
     (known b ValueEscape n o v ms out) (known b ValueQuoted n o (v ++ encode_utf8 c) ms out)
     (λ e g. no_pieces (ByValue b n o ms out) v c cs e (known b AfterValue n o v ms out g)) (some_pieces (ByValue b n o ms out) v (c ∷ cs))
-one_more c cs known b ValueEscape n o v ms out h =
-    let g = escaped (reading b ValueEscape n o v ms) (go ValueQuoted (ValueEscaped c)) c cs out (is_refused c) refl h in
-    (c, cs, refl, g.0, known b ValueQuoted n o (v ++ encode_utf8_all (meaning_of_escape c)) ms out g.1)
-one_more c cs known b AfterValue n o v ms out h = after_value b AfterValue n o v ms c cs out (kind_of c) known refl h
-one_more c cs known b AfterComma n o v ms out h = λ g k.
-    listed_begun b AfterComma o ms c cs out (kind_of c) known refl (λ a. known b AfterComma [] o [] ms out a refl refl)
-    (cleared (λ x y. Taken (reading b AfterComma x o y ms) (begins_matcher b AfterComma c (kind_of c)) cs out) n v g k h)
-one_more c cs known b Closed n o v ms out h = from_closed b n o v ms c cs out (kind_of c) known refl h
+stepped b ValueEscape n o v ms c cs out k known e h =
+    after_backslash (ByValue b n o ms out) v (reading b ValueEscape n o v ms) (go ValueQuoted (ValueEscaped c)) c cs out (is_refused c) refl h
+    (known b ValueQuoted n o (v ++ encode_utf8_all (meaning_of_escape c)) ms out)
+stepped b AfterValue n o v ms c cs out k known e h = after_value b AfterValue n o v ms c cs out k known e h
+stepped b AfterComma n o v ms c cs out k known e h = λ g i.
+    listed_begun b AfterComma o ms c cs out k known e (λ a. known b AfterComma [] o [] ms out a refl refl)
+    (cleared (λ x y. Taken (reading b AfterComma x o y ms) (begins_matcher b AfterComma c k) cs out) n v g i h)
+stepped b Closed n o v ms c cs out Blank known e h = let f = known b Closed n o v ms out h in (spaced c cs (means c Blank e) f.0, f.1)
+stepped b Closed n o v ms c cs out _ known e h = absurd (refused (reading b Closed n o v ms) cs out h)
 
 followed : (cs : List ℕ) → Known cs
+unfolding step_from
 followed [] = at_end
-followed (c ∷ cs) = one_more c cs (followed cs)
+followed (c ∷ cs) = λ b p n o v ms out h. stepped b p n o v ms c cs out (kind_of c) (followed cs) refl h
 
 spelled : (cs : List ℕ) (out : List Matcher) → FollowsListed false [] cs out ⊎ FollowsBraces [] cs out → Spells cs out
 spelled cs out (inl f) = (Bare f.0, f.2, f.3 ∙ ap (λ t. listed_text f.0 ++ t) f.4 ∙ append-nil (listed_text f.0), f.5)

@@ -24,13 +24,13 @@ within bits some = bit_or bits some ≡ bits
 -- bits that are there stay, whatever comes to them
 within_more : (bits more some : ℕ) → within bits some → within (bit_or bits more) some
 within_more bits more some h =
-    or_assoc bits more some ∙ ap (bit_or bits) (or_comm more some) ∙ sym (or_assoc bits some more) ∙ ap (λ (n : ℕ). bit_or n more) h
+    cc (or_assoc bits more some, or_comm more some, or_assoc bits some more)
 
 within_own : (bits some : ℕ) → within (bit_or bits some) some
-within_own bits some = or_assoc bits some some ∙ ap (bit_or bits) (or_self some)
+within_own bits some = cc (or_assoc bits some some, or_self some)
 
 within_both : (bits some more : ℕ) → within bits some → within bits more → within bits (bit_or some more)
-within_both bits some more h k = sym (or_assoc bits some more) ∙ ap (λ (n : ℕ). bit_or n more) h ∙ k
+within_both bits some more h k = cc (or_assoc bits some more)
 
 -- ---- the bits of a label set have that of each value
 
