@@ -1,18 +1,15 @@
 -- Pairs whose names strictly ascend: no name is repeated, so the map of the pairs has them as they
 -- are.
-use Rattle.std.proofs.Common.{◌≡◌, ◌+◌, ◌<◌, cond, T, List, [], ◌∷◌, ◌++◌, ℕ, suc, zero, None, Some, length, map, reverse, get_or, refl, sym, ap, subst, ◌∙◌, arith, Bool, true, false}
+use Rattle.std.proofs.Common.{◌≡◌, ◌+◌, ◌<◌, cond, T, List, [], ◌∷◌, ◌++◌, ℕ, suc, zero, None, Some, length, map, reverse, get_or, refl, sym, ap, subst, ◌∙◌, arith, Bool, true, false, is_eq, is_lt, Ordering, Less, Equal}
 use Rattle.std.specs.Cmp.{IsTotalOrder}
 use Rattle.std.specs.FinMap.{find, is_sorted, IsAntisymmetric}
 use Rattle.std.specs.Option.{option_or}
 use Rattle.std.specs.FinMap.Entries.{below_all}
-use Rattle.std.specs.Ordering.{is_eq, is_lt}
 use Rattle.std.specs.List.{IsAllAdjacentAnswer}
 use Rattle.std.proofs.lemmas.Bool.{true≢false, false_from_ne_true}
 use Rattle.std.proofs.lemmas.List.{get_or-map, length-map, reverse-append}
 use Rattle.std.proofs.lemmas.Map.Keys.{sorted_from_all_adjacent}
 use Rattle.amr_labels.proofs.Trees.{sorted_entries}
-use Rattle.std.specs.declared.cmp.Ordering.{Ordering}
-use Rattle.std.specs.declared.cmp.Ordering.TheVariants.{Less, Equal}
 use Rattle.amr_labels.specs.Map.{from_entries, from_sorted, entries-from_sorted, get-entries, get-from_entries, same_map}
 use Rattle.amr_labels.proofs.Sorted.{first, second, less}
 

@@ -1,6 +1,5 @@
 -- Lists are equal, item by item, exactly if they compare as equal.
-use Rattle.std.proofs.Common.{◌≡◌, List, refl}
-use Rattle.std.specs.declared.cmp.Ordering.{Ordering}
+use Rattle.std.proofs.Common.{◌≡◌, List, refl, Ordering}
 use Rattle.std.specs.Ordering.{eq_by_cmp}
 use Rattle.std.specs.Cmp.Lexicographic.{pointwise, slice_cmp, lists_ties}
 

@@ -1,10 +1,10 @@
 -- The first pair under a name, if one name after the other is tested for equality.
 use Rattle.std.proofs.Common.{Bool, ◌≡◌, ℕ, ◌+◌, ◌<◌, cond, List, Some, nat_eq, length, get_or, drop, sym, ap, ◌∙◌}
+use Rattle.std.specs.FinMap.{find}
 use Rattle.std.proofs.lemmas.Cmp.{eq_by_cmp_equiv}
 use Rattle.std.proofs.lemmas.List.{drop_more}
 use Rattle.std.specs.Cmp.{unsigned_ties}
 use Rattle.std.specs.Cmp.Lexicographic.{lists_ties, nat_list_cmp_total}
-use Rattle.std.specs.FinMap.{find}
 use Rattle.std.specs.Ordering.{nat_cmp, eq_by_cmp}
 use Rattle.amr_labels.specs.Labels.{Text, text_cmp}
 use lib.Pointwise.{pointwise}

@@ -1,14 +1,10 @@
 -- Texts are ordered as their heads are, if these differ.
-use Rattle.std.proofs.Common.{arith, ◌≡◌, ℕ, zero, suc, ◌+◌, ◌*◌, ◌<◌, ◌≤◌, [], ◌∷◌, ◌++◌, ◌&&◌, true, false, cond, length, take, drop, get_or, nat_eq, Bool, refl, sym, ap, ◌∙◌}
+use Rattle.std.proofs.Common.{arith, ◌≡◌, ℕ, zero, suc, ◌+◌, ◌*◌, ◌<◌, ◌≤◌, [], ◌∷◌, ◌++◌, ◌&&◌, true, false, cond, length, take, drop, get_or, nat_eq, Bool, refl, sym, ap, ◌∙◌, Ordering, Less, Equal, Greater, true≢false, get_or-drop, take-append-drop}
 use Rattle.std.specs.Cmp.{nat_cmp_is, tied_itself}
 use Rattle.std.specs.Cmp.Lexicographic.{nat_list_cmp_total}
-use Rattle.std.specs.declared.cmp.Ordering.{Ordering}
-use Rattle.std.specs.declared.cmp.Ordering.TheVariants.{Less, Equal, Greater}
 use Rattle.std.specs.Ordering.{nat_cmp, ordering_index, ordering_then, ordering_reverse, match_ordering, is_lt}
 use Rattle.std.proofs.lemmas.Cmp.{nat_cmp_total}
-use Rattle.std.proofs.lemmas.Bool.{true≢false}
 use Rattle.std.proofs.lemmas.Bool.Decides.{nat_tests}
-use Rattle.std.proofs.lemmas.List.{get_or-drop, take-append-drop}
 use Rattle.amr_labels.specs.Labels.{Text, text_cmp}
 use Rattle.amr_labels.specs.Head.{with_head, standing, head_past}
 use Rattle.amr_labels.proofs.Searches.{at_most_two}

@@ -1,8 +1,7 @@
 -- The label set of a list of pairs has no empty name and no empty value.
-use Rattle.std.proofs.Common.{arith, ◌≡◌, Bool, true, false, not, List, [], ◌∷◌, is_some, refl, sym, ap, ◌∙◌}
-use Rattle.std.specs.Prelude.{◌&&◌}
-use Rattle.std.specs.Cmp.Lexicographic.{nat_list_cmp_total}
+use Rattle.std.proofs.Common.{arith, ◌≡◌, Bool, true, false, not, List, [], ◌∷◌, is_some, refl, sym, ap, ◌∙◌, ◌&&◌}
 use Rattle.std.specs.FinMap.{find}
+use Rattle.std.specs.Cmp.Lexicographic.{nat_list_cmp_total}
 use Rattle.std.specs.List.{list_all, filter}
 use Rattle.amr_labels.specs.Labels.{Text, text_cmp, LabelSet, IsLabelSet, is_empty, value_of}
 use Rattle.amr_labels.specs.Map.{entries, get, retain_keys, get-entries, entries-retain_keys}

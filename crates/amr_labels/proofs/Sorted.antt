@@ -1,9 +1,5 @@
 -- The parts of the test that keys ascend.
-use Rattle.std.proofs.Common.{◌≡◌, Bool, true, false, T, refl}
-use Rattle.std.specs.Prelude.{◌&&◌}
-use Rattle.std.specs.declared.cmp.Ordering.{Ordering}
-use Rattle.std.specs.declared.cmp.Ordering.TheVariants.{Less}
-use Rattle.std.specs.Ordering.{is_lt}
+use Rattle.std.proofs.Common.{◌≡◌, Bool, true, false, T, refl, ◌&&◌, Ordering, Less, is_lt}
 
 pub both : (a b : Bool) → T a → T b → T (a && b)
 both true b p q = q

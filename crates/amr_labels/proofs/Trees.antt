@@ -1,7 +1,5 @@
 -- An ordered tree of std, as the finite map of its entries.
-use Rattle.std.proofs.Common.{arith, ◌≡◌, not, cond, List, [], ◌∷◌, Some, map, refl, sym, ap, subst, ◌∙◌, T}
-use Rattle.std.specs.declared.cmp.Ordering.{Ordering}
-use Rattle.std.specs.declared.cmp.Ordering.TheVariants.{Less, Equal}
+use Rattle.std.proofs.Common.{arith, ◌≡◌, not, cond, List, [], ◌∷◌, Some, map, refl, sym, ap, subst, ◌∙◌, T, Ordering, Less, Equal}
 use Rattle.std.specs.Ordering.{is_lt, is_eq, eq_by_cmp}
 use Rattle.std.specs.FinMap.{find, put, is_sorted}
 use Rattle.std.specs.FinMap.Entries.{below_all, where_key}

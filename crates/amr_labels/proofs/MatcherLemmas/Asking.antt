@@ -1,6 +1,5 @@
 -- Asking one matcher after the other is asking all of them.
-use Rattle.std.proofs.Common.{◌≡◌, ℕ, zero, suc, ◌+◌, ◌<◌, Bool, true, false, ◌&&◌, List, [], ◌∷◌, map, length, take, set, get_or, refl, ap, ◌∙◌, arith, add-one, eq-eqb}
-use Rattle.std.specs.Prelude.{◌==◌, bit_or}
+use Rattle.std.proofs.Common.{◌≡◌, ℕ, zero, suc, ◌+◌, ◌<◌, Bool, true, false, ◌&&◌, List, [], ◌∷◌, map, length, take, set, get_or, refl, ap, ◌∙◌, arith, add-one, eq-eqb, ◌==◌, bit_or}
 use Rattle.std.proofs.Math.Bool.{and_assoc, and-true}
 use Rattle.std.specs.List.{list_any}
 use Rattle.amr_labels.specs.Labels.{LabelSet}

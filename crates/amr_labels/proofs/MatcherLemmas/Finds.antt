@@ -1,7 +1,6 @@
 -- What is built of a text finds what the grammar reads of it.
-use Rattle.std.proofs.Common.{◌≡◌, Bool, false, Option, Some, None, is_some, sym, ap, ◌∙◌}
+use Rattle.std.proofs.Common.{◌≡◌, Bool, false, Option, Some, None, is_some, sym, ap, ◌∙◌, IsSomeAnd, chars}
 use Rattle.std.proofs.lemmas.List.{get_or_default}
-use Rattle.std.specs.Prelude.{IsSomeAnd, chars}
 use Rattle.std.specs.Option.{option_map_or}
 use Rattle.regex.specs.Patterns.{Re, find_str, default_config, Reads}
 use Rattle.regex.specs.Strings.{regex_pattern}

@@ -1,8 +1,6 @@
 -- From each state some text leads to an end, so what the machine has read is the beginning of a
 -- matcher text; if it stops, no text goes on from there.
-use Rattle.std.proofs.Common.{suc, ◌≡◌, ℕ, ◌+◌, ◌<◌, List, [], ◌∷◌, ◌++◌, length, take, drop, get_or, Bool, true, false, Option, Some, None, refl, sym, ap, subst, ◌∙◌}
-use Rattle.std.specs.Prelude.{IsSome, encode_utf8_all, option_and_then}
-use Rattle.std.proofs.lemmas.List.{append-nil, take-append-drop}
+use Rattle.std.proofs.Common.{suc, ◌≡◌, ℕ, ◌+◌, ◌<◌, List, [], ◌∷◌, ◌++◌, length, take, drop, get_or, Bool, true, false, Option, Some, None, refl, sym, ap, subst, ◌∙◌, IsSome, encode_utf8_all, option_and_then, append-nil, take-append-drop}
 use Rattle.std.proofs.Math.Seq.{split_at}
 use Rattle.regex_hir.proofs.OptionLemmas.{value_of_IsSome}
 use Rattle.amr_labels.specs.declared.matcher.Operator.{Operator}

@@ -1,12 +1,9 @@
 -- What a text spells is read.
-use Rattle.std.proofs.Common.{arith, ◌≡◌, ℕ, List, [], ◌∷◌, ◌++◌, Bool, true, false, Option, Some, refl, sym, ap, subst, ◌∙◌, append_assoc}
-use Rattle.std.specs.Prelude.{encode_utf8, encode_utf8_all, option_and_then, chars}
-use Rattle.std.specs.Option.{option_map}
+use Rattle.std.proofs.Common.{arith, ◌≡◌, ℕ, List, [], ◌∷◌, ◌++◌, Bool, true, false, Option, Some, refl, sym, ap, subst, ◌∙◌, append_assoc, encode_utf8, encode_utf8_all, option_and_then, chars, option_map, append-nil}
 use Rattle.std.specs.List.{list_all}
 use Rattle.std.specs.Char.{is_whitespace}
 use Rattle.std.proofs.lemmas.Bool.{and_parts, false≢true}
 use Rattle.std.proofs.lemmas.Bool.Decides.{nat_tests}
-use Rattle.std.proofs.lemmas.List.{append-nil}
 use Rattle.std.proofs.lemmas.Str.{encodes-append}
 use Rattle.amr_labels.specs.declared.matcher.Operator.{Operator}
 use Rattle.amr_labels.specs.declared.matcher.Operator.TheVariants.{Equal}
@@ -144,17 +141,11 @@ run_named b p o ms (Quoted (piece ∷ ps)) h w = (
       ∙ run_pieces (λ t. reading b NameQuoted t o [] ms) (name_piece b o [] ms) (piece ∷ ps) [] (34 ∷ rest) w,
 )
 
-abbrev after_operator : Operator → Mode
-after_operator Equal = AfterEquals
-after_operator _ = ValueStart
-
-after_operator-starts : (operator : Operator) → starts_value (after_operator operator) ≡ true
-after_operator-starts operator = grind arith
-
-operator_there : (b : Bool) (p : Mode) (operator : Operator) (n : Text) (o : Operator) (v : Text) (ms : List Matcher) (rest : List ℕ) → is_named p ≡ true →
-    run (Some (reading b p n o v ms)) (operator_text operator ++ rest) ≡ run (Some (reading b (after_operator operator) n operator v ms)) rest
+operator_there : (b : Bool) (p : Mode) (operator : Operator) (n : Text) (o : Operator) (v : Text) (ms : List Matcher) → is_named p ≡ true →
+    Leads (reading b p n o v ms) (operator_text operator) starts_value (λ q. reading b q n operator v ms)
 unfolding kind_of in_name after_name after_bang after_equals step_from with_part
-operator_there b p operator n o v ms rest h = grind arith
+operator_there b p Equal n o v ms h = (AfterEquals, refl, λ rest. grind arith)
+operator_there b p operator n o v ms h = (ValueStart, refl, λ rest. grind arith)
 
 named_blank : (b : Bool) (p : Mode) (c : ℕ) → is_named p ≡ true → step_at b p c Blank ≡ go AfterName Nothing
 unfolding in_name after_name
@@ -231,8 +222,8 @@ run_written w b p o ms h is =
     let v = encode_utf8_all (term_value w.value) in
     let named = run_named b p o ms w.name h is.1 in
     let spaced = lead_blanks w.after_name is_named b named.0 AfterName n o [] ms named.1 refl (λ c. (named_blank b named.0 c named.1, refl)) is.2 in
-    let starts = after_operator-starts w.operator in
-    let lead = lead_blanks w.before_value starts_value b (after_operator w.operator) ValueStart n w.operator [] ms starts refl (λ c. ((started b (after_operator w.operator) c starts).0, refl)) is.3 in
+    let operator = operator_there b spaced.0 w.operator n o [] ms spaced.1 in
+    let lead = lead_blanks w.before_value starts_value b operator.0 ValueStart n w.operator [] ms operator.1 refl (λ c. ((started b operator.0 c operator.1).0, refl)) is.3 in
     let term = run_term w.value b lead.0 n w.operator [] ms lead.1 is.4 in
     let trail = lead_blanks w.after ends_a_value b term.0 (after_space term.0) n w.operator v ms term.1 (ended b term.0 0 term.1).1 (λ c. (ended b term.0 c term.1).0) is.5 in (
       trail.0,
@@ -242,7 +233,7 @@ run_written w b p o ms h is =
           ∙ run_blanks (reading b p [] o [] ms) (λ c. (h.0 c).0) w.before _ is.0
           ∙ named.2 _
           ∙ spaced.2 _
-          ∙ operator_there b spaced.0 w.operator n o [] ms _ spaced.1
+          ∙ operator.2 _
           ∙ lead.2 _
           ∙ term.2 _
           ∙ trail.2 rest,

@@ -1,14 +1,12 @@
 -- Matchers that match a label set ask for no bit that its values don't have.
-use Rattle.std.proofs.Common.{◌≡◌, ℕ, true, false, List, [], ◌∷◌, Option, arith, sym, ap, subst, ◌∙◌}
-use Rattle.std.specs.Prelude.{fold, bit_or}
+use Rattle.std.proofs.Common.{◌≡◌, ℕ, true, false, List, [], ◌∷◌, Option, arith, sym, ap, subst, ◌∙◌, fold, bit_or, unwrap_or}
+use Rattle.std.specs.FinMap.{find}
 use Rattle.std.specs.Int.Bits.{or_self, or_zero_l}
 use Rattle.std.proofs.lemmas.Bool.{and_parts}
 use Rattle.std.proofs.lemmas.Bool.Decides.{nat_tests}
 use Rattle.std.proofs.lemmas.Map.Views.{tells_apart}
 use Rattle.std.proofs.lemmas.Nat.{or_comm}
 use Rattle.std.proofs.lemmas.Nat.Bits.{bit_at_or, same_from_bits}
-use Rattle.std.specs.Option.{unwrap_or}
-use Rattle.std.specs.FinMap.{find}
 use Rattle.amr_labels.specs.Map.{entries, get-entries}
 use Rattle.amr_labels.specs.Labels.{Text, LabelSet, text_cmp, text_cmp-IsAntisymmetric, is_empty, value_of}
 use Rattle.amr_labels.specs.Matcher.Matchers.{Matcher, holds, all_hold}

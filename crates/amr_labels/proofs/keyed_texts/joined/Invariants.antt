@@ -1,5 +1,4 @@
-use Rattle.std.proofs.Common.{◌≡◌, take}
-use Rattle.std.specs.Prelude.{string_bytes}
+use Rattle.std.proofs.Common.{◌≡◌, take, string_bytes}
 use Rattle.amr_labels.specs.SortKey.{sort_key}
 use Rattle.amr_labels.proofs.keyed_texts.joined.Given as goal
 

@@ -1,5 +1,4 @@
-use Rattle.std.proofs.Common.{sym, ◌∙◌}
-use Rattle.std.specs.Ordering.{nat_cmp}
+use Rattle.std.proofs.Common.{sym, ◌∙◌, nat_cmp}
 use Rattle.amr_labels.specs.Head.{usual_name, text_head}
 use Rattle.amr_labels.proofs.Heads.{heads_tell}
 use Rattle.amr_labels.proofs.keyed_texts.keys_cmp.Goals as goal

@@ -1,5 +1,4 @@
-use Rattle.std.proofs.Common.{◌≡◌, ◌++◌, take, flat_map, codes}
-use Rattle.std.specs.Prelude.{string_bytes}
+use Rattle.std.proofs.Common.{◌≡◌, ◌++◌, take, flat_map, codes, string_bytes}
 use Rattle.amr_labels.specs.ObjectText.{member_text}
 use Rattle.amr_labels.proofs.object_text.push_others.Given as goal
 

@@ -1,5 +1,4 @@
-use Rattle.std.proofs.Common.{◌≡◌, not, take}
-use Rattle.std.specs.List.{filter}
+use Rattle.std.proofs.Common.{◌≡◌, not, take, filter}
 use Rattle.amr_labels.specs.Labels.{is_empty}
 use Rattle.amr_labels.proofs.text_map.filled.Given as goal
 

@@ -1,6 +1,5 @@
-use Rattle.std.proofs.Common.{◌∙◌}
+use Rattle.std.proofs.Common.{◌∙◌, nat_cmp}
 use Rattle.std.specs.Cmp.Lexicographic.{slice_cmp}
-use Rattle.std.specs.Ordering.{nat_cmp}
 use Rattle.amr_labels.specs.Labels.{label_set_cmp}
 use Rattle.amr_labels.specs.Map.{entries}
 use Rattle.amr_labels.proofs.SortKeys.{by_sort_key}

@@ -1,5 +1,4 @@
-use Rattle.std.proofs.Common.{◌≡◌, Bor, Option, Some, None, is_some, refl, sym, ap, subst, ◌∙◌}
-use Rattle.std.specs.Option.{option_copied}
+use Rattle.std.proofs.Common.{◌≡◌, Bor, Option, Some, None, is_some, refl, sym, ap, subst, ◌∙◌, option_copied}
 use Rattle.amr_labels.specs.Labels.{IsLabelSet}
 use Rattle.amr_labels.proofs.Proper.{proper}
 use Rattle.amr_labels.proofs.labels.Labels.of_pairs.Goals as goal

@@ -1,5 +1,4 @@
-use Rattle.std.proofs.Common.{◌≡◌, ℕ, List, ◌+◌, length, take, Some, None, if◌then◌else◌, sym, ap, ◌∙◌, arith}
-use Rattle.std.specs.Prelude.{chars, option_and_then}
+use Rattle.std.proofs.Common.{◌≡◌, ℕ, List, ◌+◌, length, take, Some, None, if◌then◌else◌, sym, ap, ◌∙◌, arith, chars, option_and_then}
 use Rattle.std.proofs.lemmas.Iterator.{YieldsList-from_chars}
 use Rattle.std.proofs.lemmas.Iterator.Consumers.{YieldsList-turn, YieldsList-end}
 use Rattle.std.proofs.lemmas.List.{length_push}

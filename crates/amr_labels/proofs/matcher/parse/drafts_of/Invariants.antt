@@ -1,5 +1,4 @@
-use Rattle.std.proofs.Common.{◌≡◌, length, take, Some}
-use Rattle.std.specs.Prelude.{chars, encode_utf8_all}
+use Rattle.std.proofs.Common.{◌≡◌, length, take, Some, chars, encode_utf8_all}
 use Rattle.amr_labels.specs.Matcher.MatcherReading.{run, start}
 use Rattle.amr_labels.proofs.matcher.parse.drafts_of.Given as goal
 
