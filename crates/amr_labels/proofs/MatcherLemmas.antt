@@ -3,10 +3,8 @@ pub mod Asking
 pub mod Finds
 pub mod WithoutGroups
 pub mod BetweenCharacters
-pub mod BuiltPatterns
 pub mod MatcherRuns
 pub mod MatcherKinds
 pub mod MatcherSpelled
 pub mod MatcherRead
 pub mod MatcherFaults
-pub mod RefusedMore

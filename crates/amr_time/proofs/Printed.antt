@@ -1,9 +1,8 @@
 -- The text of a moment is ASCII.
-use Rattle.std.proofs.Common.{ℕ, ◌%◌, ◌<◌, Bool, true, false, eqb, cond, List, [], ◌∷◌, ◌++◌, arith}
+use Rattle.std.proofs.Common.{ℕ, ◌%◌, ◌<◌, Bool, true, false, eqb, cond, List, [], ◌∷◌, ◌++◌, arith, IsUtf8, IsAscii}
 use Rattle.std.proofs.lemmas.Str.{IsUtf8-from_ascii}
 use Rattle.std.proofs.lemmas.Str.Ascii.{IsAscii-nil, IsAscii-cons}
 use Rattle.std.specs.List.{AllByRecursion}
-use Rattle.std.specs.Str.{IsUtf8, IsAscii}
 use Rattle.amr_time.specs.Time.{second}
 use Rattle.amr_time.specs.MomentText.{digit, nine_digits, fraction_text, moment_text}
 

@@ -1,9 +1,7 @@
 -- What is read of a part of a moment's text is what the text spells there.
-use Rattle.std.proofs.Common.{◌≡◌, ℕ, ◌+◌, ◌*◌, ◌/◌, ◌%◌, ◌<◌, ◌≤◌, ◌⊎◌, inl, Bool, true, false, cond, ltb, eqb, ◌||◌, List, [], ◌∷◌, ◌++◌, length, drop, Option, Some, None, ℤ, pos, negsuc, ◌+ℤ◌, ◌-ℤ◌, ◌*ℤ◌, refl, sym, ap, ◌∙◌, arith, append-nil}
-use Rattle.std.proofs.lemmas.Bool.{eqb-true}
+use Rattle.std.proofs.Common.{◌≡◌, ℕ, ◌+◌, ◌*◌, ◌/◌, ◌%◌, ◌<◌, ◌≤◌, ◌⊎◌, inl, Bool, true, false, cond, ltb, eqb, ◌||◌, List, [], ◌∷◌, ◌++◌, length, drop, Option, Some, None, ℤ, pos, negsuc, ◌+ℤ◌, ◌-ℤ◌, ◌*ℤ◌, refl, sym, ap, arith, append-nil, eqb-true, take-append-drop}
 use Rattle.std.proofs.lemmas.Bool.Decides.{nat_tests}
 use Rattle.std.proofs.lemmas.Option.{cond_some, same_Some}
-use Rattle.std.proofs.lemmas.List.{take-append-drop}
 use Rattle.std.proofs.lemmas.List.Folds.{length-prefix_len}
 use Rattle.std.specs.List.{AllByRecursion, prefix_len}
 use Rattle.jiff_core.specs.Calendar.{days_in_month, days_from_civil}
@@ -132,11 +130,6 @@ nothing_left (c ∷ cs) o n h = absurd (grind (arith, nat_tests))
 is_dated : (year month day : ℕ) → is_date year month day ≡ true → ((1 ≤ month) × (month ≤ 12)) × ((1 ≤ day) × (day ≤ days_in_month (pos year) month))
 is_dated year month day h = grind (arith, nat_tests)
 
-valued : (day day' offset offset' : ℤ) (clock clock' fraction fraction' moment : ℕ) → day ≡ day' → clock ≡ clock' → fraction ≡ fraction' → offset ≡ offset'
-    → (day *ℤ pos 86_400_000_000_000 +ℤ pos (clock * second + fraction) -ℤ offset *ℤ pos 60_000_000_000) ≡ pos moment
-    → pos moment ≡ (day' *ℤ pos 86_400_000_000_000 +ℤ pos (clock' * second + fraction') -ℤ offset' *ℤ pos 60_000_000_000)
-valued day day' offset offset' clock clock' fraction fraction' moment d c f o e = cc
-
 pub read_is_spelled : ReadIsSpelled
 unfolding moment_at day_at day_number
 read_is_spelled text moment h =
@@ -154,6 +147,7 @@ read_is_spelled text moment h =
     let last = nothing_left offset.1 _ moment h5 in
     let r = range_takes (date.0 *ℤ pos 86_400_000_000_000 +ℤ pos (seconds.0 * second + fraction.0) -ℤ offset.0 *ℤ pos 60_000_000_000) moment last.1 in
     let dated = is_dated year.0 month.0 day.0 n.0 in
+    let clock : seconds.0 ≡ (seconds.0 / 3600 * 60 + seconds.0 / 60 % 60) * 60 + seconds.0 % 60 = omega arith in
     let read : ((number, day.1) ≡ date) = same_Some (number, day.1) date e6 in (
       record {
         year = year.0;
@@ -177,6 +171,6 @@ read_is_spelled text moment h =
         marks = (t.2, o.4);
       },
       rw (y.0, p, m.0, q, d.0, ap (λ (r : ℤ × List ℕ). r.1) read, t.1, s.0, f.text, o.2, last.0, append-nil (zone_text o.1 o.0)) refl,
-      valued date.0 (days_from_civil (pos year.0) month.0 day.0) offset.0 (offset_minutes o.0) seconds.0 ((seconds.0 / 3600 * 60 + seconds.0 / 60 % 60) * 60 + seconds.0 % 60) fraction.0 (fraction_nanoseconds f.digits) moment (sym (n.1 ∙ ap (λ (r : ℤ × List ℕ). r.0) read)) (omega arith) f.value o.5 r.0,
+      cc,
       r.1,
     ))))))))))))

@@ -1,7 +1,6 @@
 -- The text that is written spells the moment's parts, and is read back.
-use Rattle.std.proofs.Common.{◌≡◌, ℕ, ◌+◌, ◌-◌, ◌*◌, ◌/◌, ◌%◌, ◌<◌, ◌≤◌, inl, Bool, true, false, cond, eqb, List, [], length, pos, refl, sym, ap, ◌∙◌, arith, add-zero}
+use Rattle.std.proofs.Common.{◌≡◌, ℕ, ◌+◌, ◌-◌, ◌*◌, ◌/◌, ◌%◌, ◌<◌, ◌≤◌, inl, Bool, true, false, cond, eqb, List, [], length, pos, refl, sym, ap, ◌∙◌, arith, add-zero, eqb-true}
 use Rattle.std.proofs.lemmas.Int.{ints}
-use Rattle.std.proofs.lemmas.Bool.{eqb-true}
 use Rattle.std.specs.List.{AllByRecursion}
 use Rattle.amr_time.specs.Time.{second}
 use Rattle.amr_time.specs.MomentText.{IsDigit, digit, nine_digits, decimal, fraction_nanoseconds, parts_of, moment_text}

@@ -1,5 +1,4 @@
-use Rattle.std.proofs.Common.{◌≡◌, take}
-use Rattle.std.specs.Prelude.{min}
+use Rattle.std.proofs.Common.{◌≡◌, take, min}
 use Rattle.amr_time.specs.MomentText.{decimal}
 use Rattle.amr_time.proofs.digits.capped.Given as goal
 

@@ -2,9 +2,16 @@ use Rattle.std.proofs.Common.{List, suc, take, drop, sym}
 use Rattle.std.proofs.lemmas.Result.{err_from_is_err_and}
 use Rattle.std.proofs.Math.Seq.{split_at}
 use Rattle.amr_labels.specs.Matcher.Matchers.{Matcher}
-use Rattle.amr_labels.specs.Matcher.MatcherRefusals.{MayBeRefused, OneMayBeRefused}
-use Rattle.amr_labels.proofs.MatcherLemmas.RefusedMore.{refused_more}
+use Rattle.amr_labels.specs.declared.matcher.error.MatcherError.{MatcherError}
+use Rattle.amr_labels.specs.declared.matcher.error.MatcherError.TheVariants.{Memory, BadMatcher, BadPattern}
+use Rattle.amr_labels.specs.Matcher.MatcherRefusals.{MayBeRefused, OneMayBeRefused, RefusedOnlyIf}
 use Rattle.amr_labels.proofs.matcher.parse.build.Goals as goal
+
+-- if Q follows from P, what is refused only if P holds is refused only if Q holds
+refused_more : (P Q : Type 0) → (P → Q) → (error : MatcherError) → RefusedOnlyIf P error → RefusedOnlyIf Q error
+refused_more P Q more Memory refused = tt
+refused_more P Q more (BadMatcher at) refused = refused
+refused_more P Q more BadPattern refused = more refused
 
 pub returns-in_err-matcher-clause-refused : goal.returns-in_err-matcher-clause-refused
 returns-in_err-matcher-clause-refused c =
