@@ -87,7 +87,7 @@ seam key text rest e = e ∙ append_assoc text (0 ∷ []) rest
 pub not_begun : (key text : Text) → pointwise nat_eq (take (length text) key) text ≡ false → (rest : Text) → key ≢ key_of_text text ++ rest
 not_begun key text other rest e =
     let begun = ap (take (length text)) (seam key text rest e) ∙ take-append_seam text (0 ∷ rest) in
-    true≢false (sym ((bytes_decides (take (length text) key) text).1 begun) ∙ other)
+    cc ((bytes_decides (take (length text) key) text).1 begun)
 
 -- nor if the end doesn't follow
 pub not_ended : (key text ended : Text) (found : Option (Bor Text)) → ended ≡ drop (length text) key

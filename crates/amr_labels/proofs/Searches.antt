@@ -16,9 +16,6 @@ use Rattle.amr_labels.proofs.Sorted.{first, second, less}
 pub at_most_two : (o : Ordering) → ordering_index o ≤ 2
 at_most_two o = grind arith
 
-same_index : (o p : Ordering) → o ≡ p → ordering_index o ≤ ordering_index p
-same_index o p e = rw e (omega arith)
-
 module _ {K : Type 0} {R : K → K → Ordering} (o : IsTotalOrder R) where
   index_rises : (x y q : K) → R x y ≡ Less → ordering_index (R x q) ≤ ordering_index (R y q)
   index_rises x y q l =
@@ -61,7 +58,7 @@ module _ {K X : Type 0} {R : K → K → Ordering} (o : IsTotalOrder R) where
   searched q es (Ok i) h within result = λ d. found_at q es i d h within (result d)
   searched q es (Err i) h within result =
       let parts = result (λ j k d le lt. elim (leb_tells k j) [
-        | inl p ↦ let same : j ≡ k = omega arith in same_index _ _ (ap (λ (n : ℕ). R (get_or es n d).0 q) same)
+        | inl p ↦ let same : j ≡ k = omega arith in rw same (omega arith)
         | inr p ↦ index_rises o _ _ q (rises es h j k d p.1 lt)
       ]) in
       none_found q es (λ k d lt e. elim (leb_tells i k) [

@@ -1,6 +1,6 @@
 -- From each state some text leads to an end, so what the machine has read is the beginning of a
 -- matcher text; if it stops, no text goes on from there.
-use Rattle.std.proofs.Common.{suc, ◌≡◌, ℕ, ◌+◌, ◌<◌, List, [], ◌∷◌, ◌++◌, length, take, drop, get_or, Bool, true, false, Option, Some, None, refl, sym, ap, subst, ◌∙◌, IsSome, encode_utf8_all, option_and_then, append-nil, take-append-drop}
+use Rattle.std.proofs.Common.{arith, suc, ◌≡◌, ℕ, ◌+◌, ◌<◌, List, [], ◌∷◌, ◌++◌, length, take, drop, get_or, Bool, true, false, Option, Some, None, sym, ap, subst, ◌∙◌, IsSome, encode_utf8_all, option_and_then, append-nil, take-append-drop}
 use Rattle.std.proofs.Math.Seq.{split_at}
 use Rattle.regex_hir.proofs.OptionLemmas.{value_of_IsSome}
 use Rattle.amr_labels.specs.declared.matcher.Operator.{Operator}
@@ -36,9 +36,7 @@ completion b _ = closing b
 ends : (b : Bool) (mode : Mode) (name : Text) (operator : Operator) (value : Text) (matchers : List Matcher) →
     IsSome (option_and_then matchers_at_end (run (Some (record { braced = b; mode = mode; name = name; operator = operator; value = value; matchers = matchers })) (completion b mode)))
 unfolding kind_of begins_matcher after_name ends_value begins_value in_name in_value after_bang after_equals at_start after_braces step_from with_part ending
-ends true Start n o v m = refl
-ends false Start n o v m = refl
-ends b _ n o v m = refl
+ends b mode n o v m = grind arith
 
 begun : (front : List ℕ) (r : Reading) → run (Some start) front ≡ Some r → Begins front
 begun front r h =

@@ -1,5 +1,5 @@
 -- What the kinds of characters mean.
-use Rattle.std.proofs.Common.{arith, ◌≡◌, ℕ, Bool, true, false, if◌then◌else◌, refl, ap}
+use Rattle.std.proofs.Common.{arith, ◌≡◌, ℕ, true, if◌then◌else◌, ap}
 use Rattle.std.specs.Char.{is_whitespace}
 use Rattle.std.proofs.lemmas.Bool.Decides.{nat_tests}
 use Rattle.amr_labels.specs.declared.matcher.matcher_steps.Kind.{Kind}
@@ -20,16 +20,9 @@ Means Quote c = c ≡ 34
 Means Reserved c = Unit {0}
 Means Plain c = is_literal c ≡ true
 
-chosen : (P : Kind → Type 0) (b : Bool) (x y : Kind) → (b ≡ true → P x) → (b ≡ false → P y) → P (if b then x else y)
-chosen P true x y f g = f refl
-chosen P false x y f g = g refl
-
-mark_means : (c : ℕ) → is_whitespace c ≡ false → Means (mark_kind c) c
-mark_means c w = grind (arith, nat_tests)
-
 means_of : (c : ℕ) → Means (kind_of c) c
 unfolding kind_of
-means_of c = chosen (λ k. Means k c) (is_whitespace c) Blank (mark_kind c) (λ e. e) (mark_means c)
+means_of c = grind (arith, nat_tests)
 
 pub means : (c : ℕ) (k : Kind) → kind_of c ≡ k → Means k c
 means c k e = rw e at (means_of c)

@@ -1,5 +1,5 @@
 -- Runs of the machine over characters, and characters in bytes.
-use Rattle.std.proofs.Common.{◌≡◌, ℕ, ◌+◌, ◌<◌, ◌≤◌, List, [], ◌∷◌, ◌++◌, length, take, drop, get_or, Option, Some, None, refl, sym, ap, ◌∙◌, arith, encode_utf8, encode_utf8_all, chars, option_and_then}
+use Rattle.std.proofs.Common.{◌≡◌, ℕ, ◌+◌, ◌<◌, ◌≤◌, List, [], ◌∷◌, ◌++◌, length, take, drop, get_or, Option, Some, None, refl, arith, encode_utf8, encode_utf8_all, chars, option_and_then}
 use Rattle.std.specs.Str.{IsUtf8, is_utf8, bytes_eq, all_scalars}
 use Rattle.std.proofs.lemmas.Bool.{and_parts}
 use Rattle.std.proofs.lemmas.Str.{encodes-append, is_utf8-from_IsUtf8}
@@ -22,8 +22,7 @@ run_more cs n c r lt is h = rw (take_more cs n c lt, ← is, run-append, h) refl
 -- the prefixes of a text are no longer than it
 pub encoded_front : (cs : List ℕ) (n : ℕ) → length (encode_utf8_all (take n cs)) ≤ length (encode_utf8_all cs)
 encoded_front cs n =
-    let e : encode_utf8_all cs ≡ encode_utf8_all (take n cs) ++ encode_utf8_all (drop n cs) = ap encode_utf8_all (sym (take-append-drop n cs)) ∙ encodes-append (take n cs) (drop n cs) in
-    omega (arith, ap length e ∙ length-append (encode_utf8_all (take n cs)) (encode_utf8_all (drop n cs)))
+    grind (arith, take-append-drop n cs, encodes-append (take n cs) (drop n cs), length-append (encode_utf8_all (take n cs)) (encode_utf8_all (drop n cs)))
 
 pub encoded_more : (cs : List ℕ) (n c : ℕ) → n < length cs → c ≡ get_or cs n c → length (encode_utf8_all (take (n + 1) cs)) ≡ length (encode_utf8_all (take n cs)) + length (encode_utf8 c)
 encoded_more cs n c lt is = rw (take_more cs n c lt, ← is, encodes-append, length-append, append-nil) refl
