@@ -1,5 +1,5 @@
 -- jiff's words for a date that exists, as a test.
-use Rattle.std.proofs.Common.{◌≡◌, ℕ, ◌<◌, ◌≤◌, true, Some, None, pos, to_z, w8, w16, refl, ◌∙◌, arith}
+use Rattle.std.proofs.Common.{◌≡◌, ℕ, ◌<◌, ◌≤◌, true, Some, None, pos, to_z, w8, w16, refl, arith}
 use Rattle.std.proofs.lemmas.Bool.{false_from_ne_true}
 use Rattle.std.proofs.lemmas.Bool.Decides.{nat_tests}
 use Rattle.std.proofs.lemmas.Int.{ints, to_z_pos}
@@ -21,10 +21,7 @@ unfolding day_number
 made y m d date yl ml dl h ymd =
     let same : (to_z w16 y ≡ pos y) × (to_z w8 m ≡ pos m) × (to_z w8 d ≡ pos d) = (to_z_pos w16 y (omega arith), to_z_pos w8 m (omega arith), to_z_pos w8 d (omega arith)) in
     let here : IsDate (pos y) (pos m) (pos d) = rw (same.0, same.1, same.2) at h in
-    let yes = tested y m d here in
-    let month : date.month ≡ m = cc in
-    let day : date.day ≡ d = cc in
-    rw (yes, ymd.0 ∙ same.0, month, day) refl
+    grind (arith, tested y m d here)
 
 pub refused : (y m d : ℕ) → y < 10000 → m < 100 → d < 100 → ¬ (IsDate (to_z w16 y) (to_z w8 m) (to_z w8 d)) → None ≡ day_number y m d
 unfolding day_number

@@ -1,5 +1,5 @@
 -- Numbers of decimal digits.
-use Rattle.std.proofs.Common.{◌≡◌, ℕ, ◌+◌, ◌-◌, ◌*◌, ◌^◌, ◌<◌, ◌≤◌, Bool, true, false, cond, leb, List, [], ◌∷◌, length, take, drop, length-drop, fold, min, Some, refl, ap, ◌∙◌, arith, le-leb, take_all}
+use Rattle.std.proofs.Common.{◌≡◌, ℕ, ◌+◌, ◌-◌, ◌*◌, ◌^◌, ◌<◌, ◌≤◌, true, false, cond, leb, List, [], ◌∷◌, length, take, drop, length-drop, fold, min, Some, refl, ap, ◌∙◌, arith, le-leb, take_all}
 use Rattle.std.specs.List.{AllByRecursion, prefix_len}
 use Rattle.std.proofs.Math.Nat.{pow-suc, pow-le-pow_right, mul-le-mul_left}
 use Rattle.std.proofs.lemmas.Bool.Decides.{nat_tests}
@@ -11,13 +11,13 @@ use Rattle.amr_time.specs.MomentRead.{is_digit, digits_of, fraction_digits_at}
 pub digit_in : (c : ℕ) → is_digit c ≡ true → IsDigit c
 digit_in c h = grind (arith, nat_tests)
 
-if_digit : (c : ℕ) (cs : List ℕ) (b : Bool) → is_digit c ≡ b → AllByRecursion IsDigit (digits_of cs) → AllByRecursion IsDigit (cond b (c ∷ digits_of cs) [])
-if_digit c cs true h all = (digit_in c h, all)
-if_digit c cs false h all = tt
-
 pub digits_of_are : (text : List ℕ) → AllByRecursion IsDigit (digits_of text)
 digits_of_are [] = tt
-digits_of_are (c ∷ cs) = rw (take_while-cons is_digit c cs) (if_digit c cs (is_digit c) refl (digits_of_are cs))
+digits_of_are (c ∷ cs) =
+    rw (take_while-cons is_digit c cs) (elim (is_digit c) as (λ b. is_digit c ≡ b → AllByRecursion IsDigit (cond b (c ∷ digits_of cs) [])) [
+      | true ↦ λ h. (digit_in c h, digits_of_are cs)
+      | false ↦ λ h. tt
+    ] refl)
 
 abbrev step : ℕ → ℕ → ℕ
 step n c = n * 10 + (c - 48)

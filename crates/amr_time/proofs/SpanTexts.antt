@@ -45,7 +45,7 @@ unit_takes u us text n true e again h =
     mapped (λ k. decimal (digits_of text) * u.1 + k) (parts_at us (after_word (after_digits text))) n h (λ k at sum.
     let t = again (after_word (after_digits text)) k at in
     let a = and_parts (leb 1 (length (digits_of text))) (bytes_eq (word_of (after_digits text)) u.0) e in
-    let word : word_of (after_digits text) ≡ u.0 = (bytes_eq-Decides (word_of (after_digits text)) u.0).0 a.1 in
+    let word = (bytes_eq-Decides (word_of (after_digits text)) u.0).0 a.1 in
     let amount = some_amount u (digits_of text) (leb-true 1 (length (digits_of text)) a.0) in
     record {
       amounts = digits_of text ∷ t.amounts;
@@ -110,7 +110,7 @@ word_again [] (c ∷ cs) none first = rw (take_while-cons (λ k. not (is_digit k
 word_again (l ∷ ls) tail none first = rw (take_while-cons (λ k. not (is_digit k)) l (ls ++ tail), none.0, word_again ls tail none.1 first) refl
 
 digits_before : (digits letters tail : List ℕ) → AreDigits digits → leb 1 (length letters) ≡ true → NoDigits letters → digits_of (digits ++ (letters ++ tail)) ≡ digits
-digits_before digits [] tail all some none = absurd cc
+digits_before digits [] tail all some none = cc
 digits_before digits (l ∷ ls) tail all some none = digits_again digits l (ls ++ tail) all none.0
 
 pub record AmountRead (digits letters tail text : List ℕ) : Type 0 where
@@ -144,8 +144,7 @@ nothing_there (u ∷ us) = nothing_there us
 unit_again : (u : UnitOfTime) (us : List UnitOfTime) (digits tail text : List ℕ) (n : ℕ) → AmountRead digits u.0 tail text → 1 ≤ length digits → parts_at us tail ≡ Some n → parts_at (u ∷ us) text ≡ Some (decimal digits * u.1 + n)
 unfolding parts_at
 unit_again u us digits tail text n r some h =
-    let yes : bytes_eq u.0 u.0 ≡ true = (bytes_eq-Decides u.0 u.0).1 refl in
-    rw (r.rest_is, r.word_is, r.digits_are, yes, le-leb 1 (length digits) some, h) refl
+    rw (r.rest_is, r.word_is, r.digits_are, (bytes_eq-Decides u.0 u.0).1 refl, le-leb 1 (length digits) some, h) refl
 
 parts_again : (us : List UnitOfTime) (amounts : List (List ℕ)) → AreApart us → AllByRecursion AreDigits amounts → parts_at us (amounts_text us amounts) ≡ Some (amounts_total us amounts)
 unfolding parts_at
@@ -160,9 +159,7 @@ parts_again (u ∷ us) ((d ∷ ds) ∷ amounts) each all =
 
 zero_apart : (amounts : List (List ℕ)) → AllByRecursion AreDigits amounts → 48 ∷ [] ≡ amounts_text units amounts → ⊥
 unfolding parts_at
-zero_apart amounts all e =
-    let p : parts_at units (48 ∷ []) ≡ Some (amounts_total units amounts) = ap (λ (t : List ℕ). parts_at units t) e ∙ parts_again units amounts units_apart all in
-    cc
+zero_apart amounts all e = cc (ap (λ (t : List ℕ). parts_at units t) e ∙ parts_again units amounts units_apart all)
 
 empty_is : (text : List ℕ) → ¬ (text ≡ []) → eqb (length text) 0 ≡ false
 empty_is [] some = absurd (some refl)

@@ -53,8 +53,7 @@ seconds_again h m s rest c =
     rw (minutes_again h m (58 ∷ r₁) c.0 c.1, two_again s rest (omega arith), lt-ltb s 60 c.2) refl
 
 time_mark_again : (mark : ℕ) (rest : List ℕ) → (mark ≡ 84) ⊎ (mark ≡ 116) → time_mark_at (mark ∷ rest) ≡ Some rest
-time_mark_again mark rest (inl e) = rw e refl
-time_mark_again mark rest (inr e) = rw e refl
+time_mark_again mark rest e = grind (arith, nat_tests)
 
 -- digits before another byte are all that is taken
 pub digits_again : (digits : List ℕ) (c : ℕ) (cs : List ℕ) → AllByRecursion IsDigit digits → is_digit c ≡ false → digits_of (digits ++ c ∷ cs) ≡ digits
@@ -70,8 +69,7 @@ fraction_again (d ∷ ds) c cs all stops point =
 
 offset_again : (mark : ℕ) (zone : Zone) → IsOffset zone → (mark ≡ 90) ⊎ (mark ≡ 122) → offset_at (zone_text mark zone) ≡ Some (offset_minutes zone, [])
 unfolding offset_at
-offset_again mark Utc are (inl e) = rw e refl
-offset_again mark Utc are (inr e) = rw e refl
+offset_again mark Utc are e = grind (arith, nat_tests)
 offset_again mark (Ahead h m) are e = rw (minutes_again h m [] are.0 are.1) refl
 offset_again mark (Behind h m) are e = rw (minutes_again h m [] are.0 are.1) refl
 

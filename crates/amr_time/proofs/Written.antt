@@ -21,10 +21,7 @@ four_value : (n : ℕ) → n < 10_000 → ((n / 100 / 10 % 10 * 10 + n / 100 % 1
 four_value n lt = omega arith
 
 nine_value : (n : ℕ) → n < 1_000_000_000 → decimal (nine_digits n) ≡ n
-nine_value n lt =
-    let high = four_value (n / 10_000 % 10_000) (omega arith) in
-    let low = four_value (n % 10_000) (omega arith) in
-    simp digit_value (omega arith)
+nine_value n lt = simp digit_value (omega (arith, four_value (n / 10_000 % 10_000) (omega arith), four_value (n % 10_000) (omega arith)))
 
 pub record FractionWritten (n : ℕ) (digits : List ℕ) : Type 0 where
   pub few : length digits ≤ 9
