@@ -1,7 +1,8 @@
 -- Asking one matcher after the other is asking all of them.
-use Rattle.std.proofs.Common.{◌≡◌, ℕ, zero, suc, ◌+◌, ◌<◌, Bool, true, false, ◌&&◌, List, [], ◌∷◌, map, length, take, set, get_or, refl, ap, ◌∙◌, arith, add-one, eq-eqb, ◌==◌, bit_or}
+use Rattle.std.proofs.Common.{◌≡◌, ℕ, zero, suc, ◌+◌, ◌<◌, Bool, false, ◌&&◌, List, [], ◌∷◌, map, length, take, set, get_or, refl, ap, ◌∙◌, arith, add-one, ◌==◌, bit_or}
 use Rattle.std.proofs.Math.Bool.{and_assoc, and-true}
 use Rattle.std.specs.List.{list_any}
+use Rattle.std.proofs.lemmas.Bool.Decides.{nat_tests}
 use Rattle.amr_labels.specs.Labels.{LabelSet}
 use Rattle.amr_labels.specs.Matcher.Matchers.{Matcher, holds, all_hold}
 use Rattle.amr_labels.specs.Matcher.Candidates.{candidates_by_bits, candidates_after, kept_by, kept_by_all, matches_each}
@@ -23,12 +24,9 @@ have_bits : (matchers : List Matcher) (label_sets : List LabelSet)
 have_bits matchers [] = refl
 have_bits matchers (labels ∷ label_sets) = ap (λ candidates. has_bits matchers labels ∷ candidates) (have_bits matchers label_sets)
 
-absorbed : (a b : Bool) → (b ≡ true → a ≡ true) → (a && b) ≡ b
-absorbed a b h = grind arith
-
 -- that test changes nothing of the answer of all matchers
 bits_besides : (matchers : List Matcher) (labels : LabelSet) → (has_bits matchers labels && all_hold matchers labels) ≡ all_hold matchers labels
-bits_besides matchers labels = absorbed _ _ (λ all. eq-eqb _ _ (matching_marked labels matchers all))
+bits_besides matchers labels = grind (arith, nat_tests, matching_marked labels matchers)
 
 pub asked_each : (matchers : List Matcher) (label_sets : List LabelSet)
     → kept_by_all matchers label_sets (candidates_by_bits (required_bits matchers) (map value_bits label_sets))

@@ -1,6 +1,6 @@
 -- From each state some text leads to an end, so what the machine has read is the beginning of a
 -- matcher text; if it stops, no text goes on from there.
-use Rattle.std.proofs.Common.{arith, suc, ◌≡◌, ℕ, ◌+◌, ◌<◌, List, [], ◌∷◌, ◌++◌, length, take, drop, get_or, Bool, true, false, Option, Some, None, sym, ap, subst, ◌∙◌, IsSome, encode_utf8_all, option_and_then, append-nil, take-append-drop}
+use Rattle.std.proofs.Common.{arith, suc, ◌≡◌, ℕ, ◌+◌, ◌<◌, List, [], ◌∷◌, ◌++◌, length, take, drop, get_or, Bool, true, false, Some, None, sym, ap, subst, ◌∙◌, IsSome, encode_utf8_all, option_and_then, append-nil, take-append-drop}
 use Rattle.std.proofs.Math.Seq.{split_at}
 use Rattle.regex_hir.proofs.OptionLemmas.{value_of_IsSome}
 use Rattle.amr_labels.specs.declared.matcher.Operator.{Operator}
@@ -51,9 +51,7 @@ gone : (cs rest : List ℕ) → run (Some start) cs ≡ None → matchers_of_cha
 gone cs rest h = ap (option_and_then matchers_at_end) (run-append (Some start) cs rest ∙ ap (λ o. run o rest) h ∙ run-none rest)
 
 none_begins : (front : List ℕ) → run (Some start) front ≡ None → Begins front → ⊥
-none_begins front h b =
-    let e : ◌≡◌ {A = Option (List Matcher)} None (Some b.1) = sym (gone front b.0 h) ∙ spelled_are_read (front ++ b.0) b.1 b.2 in
-    cc
+none_begins front h b = cc (gone front b.0 h, spelled_are_read (front ++ b.0) b.1 b.2)
 
 -- the machine stops at the character c
 pub stops : (cs : List ℕ) (n c at : ℕ) (r : Reading) → n < length cs → c ≡ get_or cs n c → run (Some start) (take n cs) ≡ Some r → next r c ≡ None → at ≡ length (encode_utf8_all (take n cs)) → (matchers_of_chars cs ≡ None) × IsLongest cs at

@@ -1,6 +1,6 @@
 -- What is read is spelled: what may follow in each state of the machine, in the terms of the
 -- grammar.
-use Rattle.std.proofs.Common.{◌≡◌, ℕ, List, [], ◌∷◌, ◌++◌, Bool, true, false, not, Option, Some, None, if◌then◌else◌, refl, sym, ap, subst, ◌∙◌, append_assoc, ◌==◌, ◌⊎◌, inl, inr, encode_utf8, encode_utf8_all, option_and_then, chars, append-nil}
+use Rattle.std.proofs.Common.{arith, ◌≡◌, ℕ, List, [], ◌∷◌, ◌++◌, Bool, true, false, not, Option, Some, None, if◌then◌else◌, refl, sym, ap, subst, ◌∙◌, append_assoc, ◌==◌, ◌⊎◌, inl, inr, encode_utf8, encode_utf8_all, option_and_then, chars, append-nil}
 use Rattle.std.specs.List.{list_all}
 use Rattle.std.specs.Char.{is_whitespace}
 use Rattle.std.proofs.lemmas.Bool.{and_from, false≢true, true≢false, eqb-true}
@@ -29,9 +29,7 @@ abbrev Taken : Reading → Option Step → List ℕ → List Matcher → Type 0
 Taken r step cs out = option_and_then matchers_at_end (run (moved r step) cs) ≡ Some out
 
 refused : (r : Reading) (cs : List ℕ) (out : List Matcher) → Taken r None cs out → ⊥
-refused r cs out h =
-    let e : ◌≡◌ {A = Option (List Matcher)} None (Some out) = sym (ap (option_and_then matchers_at_end) (run-none cs)) ∙ h in
-    cc
+refused r cs out h = grind (arith, run-none cs)
 
 cons_same : (c d : ℕ) (cs ds : List ℕ) → c ≡ d → cs ≡ ds → c ∷ cs ≡ d ∷ ds
 cons_same c d cs ds e f = λ i. e i ∷ f i
@@ -283,20 +281,17 @@ name_ended b here n o v ms c cs out Bang known e h =
     ([], f.0, f.1, refl, cons_same c 33 cs cs (means c Bang e) refl ∙ f.2, f.3)
 name_ended b here n o v ms c cs out _ known e h = absurd (refused (reading b here n o v ms) cs out h)
 
-same_end : (ms out : List Matcher) → ◌≡◌ {A = Option (List Matcher)} (Some ms) (Some out) → out ≡ ms
-same_end ms out e = cc
-
 -- at the end of the text
 listed_over : (ms out : List Matcher) → ◌≡◌ {A = Option (List Matcher)} (Some ms) (Some out) → FollowsListed false ms [] out
-listed_over ms out e = (Alone [], [], refl, refl, refl, same_end ms out e ∙ sym (append-nil ms))
+listed_over ms out e = (Alone [], [], refl, refl, refl, cc (append-nil ms))
 
 value_over : (ms out : List Matcher) → ◌≡◌ {A = Option (List Matcher)} (Some ms) (Some out) → FollowsValue false ms [] out
-value_over ms out e = ([], [], refl, refl, inl (refl, same_end ms out e))
+value_over ms out e = ([], [], refl, refl, inl (refl, cc))
 
 at_end : Known []
 unfolding ending with_part
 at_end b Start n o v ms out h = λ f g k. inl (listed_over ms out h)
-at_end b Closed n o v ms out h = (refl, same_end ms out h)
+at_end b Closed n o v ms out h = (refl, cc)
 at_end false AfterComma n o v ms out h = λ g k. listed_over ms out h
 at_end false AfterEquals n o v ms out h = inr (no_value false n o v ms [] out (value_over (with_matcher ms n o v) out h))
 at_end false ValueStart n o v ms out h = no_value false n o v ms [] out (value_over (with_matcher ms n o v) out h)

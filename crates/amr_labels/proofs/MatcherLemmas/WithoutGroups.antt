@@ -1,12 +1,11 @@
 -- A pattern is found without its groups exactly where it is found with them.
-use Rattle.std.proofs.Common.{arith, ◌≡◌, ℕ, zero, suc, ◌-◌, Bool, cond, ◌||◌, List, [], ◌∷◌, map, Option, Some, None, IsSome, is_some, option_map, refl, sym, ap, ap₂, ◌∙◌, ◌⊎◌, subst}
+use Rattle.std.proofs.Common.{arith, ◌≡◌, ℕ, zero, suc, ◌-◌, Bool, cond, List, [], ◌∷◌, map, Option, Some, None, IsSome, is_some, refl, sym, ap, ◌∙◌, ◌⊎◌, subst}
 use Rattle.std.specs.Cmp.{both_ways}
-use Rattle.std.specs.Option.{option_or}
-use Rattle.regex_hir.specs.Re.{Re, cat, alt, group, plus, Trace, Rest, accept, attempt}
+use Rattle.regex_hir.specs.Re.{Re, cat, alt, group, plus, Rest, accept, attempt}
 use Rattle.regex_hir.specs.Meaning.{meaning, cat_all, alt_all, optional, copies, up_to, at_least, repeat}
 use Rattle.regex_hir.specs.Matches.{Rounds, Matches}
 use Rattle.regex_hir.specs.Text.{is_boundary}
-use Rattle.regex_hir.specs.Find.{Match, first_from, find_str}
+use Rattle.regex_hir.specs.Find.{first_from, find_str}
 use Rattle.regex_hir.specs.declared.hir.Hir.{Hir}
 use Rattle.regex_hir.proofs.AttemptLemmas.{attempt_sound, attempt_complete}
 use Rattle.regex_hir.proofs.OptionLemmas.{value_of_IsSome}
@@ -38,15 +37,10 @@ found_at hay re i =
 some_if : {A : Type 0} (b : Bool) (o p : Option A) → is_some o ≡ is_some p → is_some (cond b o None) ≡ is_some (cond b p None)
 some_if b o p same = grind arith
 
-some_or : (i : ℕ) (o : Option Trace) (later : Option Match) →
-    is_some (option_or (option_map (λ t. record { start = i; trace = t }) o) later) ≡ (is_some o || is_some later)
-some_or i o later = grind arith
-
 first_alike : (f g : Rest) → ((i : ℕ) → is_some (f i) ≡ is_some (g i)) → (n i : ℕ) → is_some (first_from f n i) ≡ is_some (first_from g n i)
 unfolding first_from
 first_alike f g same zero i = refl
-first_alike f g same (suc n) i =
-    some_or i (f i) _ ∙ ap₂ ◌||◌ (same i) (first_alike f g same n _) ∙ sym (some_or i (g i) _)
+first_alike f g same (suc n) i = grind (arith, same i, first_alike f g same n)
 
 pub found_alike : (re : Re) (hay : List ℕ) → is_some (find_str (without_groups re) hay 0) ≡ is_some (find_str re hay 0)
 unfolding find_str
