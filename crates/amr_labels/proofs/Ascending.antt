@@ -16,10 +16,6 @@ use Rattle.amr_labels.proofs.Sorted.{first, second, less}
 is_less : (r : Ordering) → true ≡ is_lt r → r ≡ Less
 is_less r t = grind arith
 
-is_true : (b : Bool) → T b → true ≡ b
-is_true true t = refl
-is_true false t = absurd t
-
 module _ {K X : Type 0} (R : K → K → Ordering) where
   find-append : (q : K) (xs ys : List (K × X)) → find R q (xs ++ ys) ≡ option_or (find R q xs) (find R q ys)
   find-append q [] ys = refl
@@ -49,7 +45,9 @@ module _ {K X : Type 0} {R : K → K → Ordering} (o : IsTotalOrder R) where
 
   -- names ascend if those of all neighbours do
   pub ascending : (es : List (K × X)) (answer : Bool) → IsAllAdjacentAnswer (λ x y b. b ≡ is_lt (R x.0 y.0)) es answer → answer ≡ is_sorted R es
-  ascending es true h = is_true _ (neighbours_decide es (λ k d within. is_less _ (h k d within)))
+  ascending es true h =
+      let sorted = neighbours_decide es (λ k d within. is_less _ (h k d within)) in
+      grind arith
   ascending es false (k, within, above) = sym (false_from_ne_true _ (λ sorted. true≢false (sym (no_neighbours es k within above sorted))))
 
   -- nothing is found among greater entries

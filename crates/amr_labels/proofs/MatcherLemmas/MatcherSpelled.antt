@@ -67,8 +67,7 @@ unfolding step_from with_part
 opened_as_quoted piece ps b n o v ms rest h = grind (arith, nat_tests)
 
 pub pieces_encoded : (t : Text) (piece : Piece) (ps : List Piece) → (t ++ encode_utf8_all (piece_value piece)) ++ encode_utf8_all (pieces_value ps) ≡ t ++ encode_utf8_all (pieces_value (piece ∷ ps))
-pieces_encoded t piece ps =
-    append_assoc t (encode_utf8_all (piece_value piece)) (encode_utf8_all (pieces_value ps)) ∙ ap (λ e. t ++ e) (sym (encodes-append (piece_value piece) (pieces_value ps)))
+pieces_encoded t piece ps = cc (append_assoc t (encode_utf8_all (piece_value piece)) (encode_utf8_all (pieces_value ps)), encodes-append (piece_value piece) (pieces_value ps))
 
 -- over pieces, if each of them is added to the text that is read
 run_pieces : (at : Text → Reading)
@@ -77,9 +76,8 @@ run_pieces : (at : Text → Reading)
 run_pieces at more [] t rest h = ap (λ s. run (Some (at s)) rest) (sym (append-nil t))
 run_pieces at more (piece ∷ ps) t rest h =
     let parts = and_parts (is_piece piece) (list_all is_piece ps) h in
-    ap (run (Some (at t))) (append_assoc (piece_text piece) (pieces_text ps) rest)
-    ∙ more t piece (pieces_text ps ++ rest) parts.0 ∙ run_pieces at more ps (t ++ encode_utf8_all (piece_value piece)) rest parts.1
-    ∙ ap (λ s. run (Some (at s)) rest) (pieces_encoded t piece ps)
+    let this = more t piece (pieces_text ps ++ rest) parts.0 in
+    cc (append_assoc (piece_text piece) (pieces_text ps) rest, run_pieces at more ps (t ++ encode_utf8_all (piece_value piece)) rest parts.1, pieces_encoded t piece ps)
 
 -- how a list of matchers ends: with the text outside braces, and with the closing one in them
 abbrev Ends : Bool → Reading → List Matcher → Type 0

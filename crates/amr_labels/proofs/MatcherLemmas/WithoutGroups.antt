@@ -1,5 +1,5 @@
 -- A pattern is found without its groups exactly where it is found with them.
-use Rattle.std.proofs.Common.{arith, ◌≡◌, ℕ, zero, suc, ◌-◌, Bool, cond, List, [], ◌∷◌, map, Option, Some, None, IsSome, is_some, refl, sym, ap, ◌∙◌, ◌⊎◌, subst}
+use Rattle.std.proofs.Common.{arith, ◌≡◌, ℕ, zero, suc, ◌-◌, Bool, cond, List, [], ◌∷◌, map, Option, Some, None, IsSome, is_some, refl, sym, ap, ◌⊎◌, subst}
 use Rattle.std.specs.Cmp.{both_ways}
 use Rattle.regex_hir.specs.Re.{Re, cat, alt, group, plus, Rest, accept, attempt}
 use Rattle.regex_hir.specs.Meaning.{meaning, cat_all, alt_all, optional, copies, up_to, at_least, repeat}
@@ -57,8 +57,7 @@ ungrouped_copies (suc n) a b = ap (cat (without_groups a)) (ungrouped_copies n a
 
 ungrouped_up_to : (greedy : Bool) (n : ℕ) (a : Re) → without_groups (up_to greedy n a) ≡ up_to greedy n (without_groups a)
 ungrouped_up_to greedy zero a = refl
-ungrouped_up_to greedy (suc n) a =
-    ungrouped_optional greedy (cat a (up_to greedy n a)) ∙ ap (λ rest. optional greedy (cat (without_groups a) rest)) (ungrouped_up_to greedy n a)
+ungrouped_up_to greedy (suc n) a = cc (ungrouped_optional greedy (cat a (up_to greedy n a)), ungrouped_up_to greedy n a)
 
 ungrouped_at_least : (greedy : Bool) (n : ℕ) (a : Re) → without_groups (at_least greedy n a) ≡ at_least greedy n (without_groups a)
 ungrouped_at_least greedy zero a = ungrouped_optional greedy (plus greedy a)
@@ -68,7 +67,7 @@ pub ungrouped_repeat : (least : ℕ) (most : Option ℕ) (greedy : Bool) (a : Re
 unfolding repeat
 ungrouped_repeat least None greedy a = ungrouped_at_least greedy least a
 ungrouped_repeat least (Some most) greedy a =
-    ungrouped_copies least a (up_to greedy (most - least) a) ∙ ap (copies least (without_groups a)) (ungrouped_up_to greedy (most - least) a)
+    cc (ungrouped_copies least a (up_to greedy (most - least) a), ungrouped_up_to greedy (most - least) a)
 
 pub ungrouped_cat_all : (subs : List Hir) → without_groups (cat_all (map meaning subs)) ≡ cat_all (map (λ sub. without_groups (meaning sub)) subs)
 ungrouped_cat_all [] = refl

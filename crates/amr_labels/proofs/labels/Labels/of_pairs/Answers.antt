@@ -1,11 +1,10 @@
-use Rattle.std.proofs.Common.{◌≡◌, Bor, Option, Some, None, is_some, refl, sym, ap, subst, ◌∙◌, option_copied}
+use Rattle.std.proofs.Common.{arith, ◌≡◌, Bor, Option, is_some, sym, ap, subst, ◌∙◌, option_copied}
 use Rattle.amr_labels.specs.Labels.{IsLabelSet}
 use Rattle.amr_labels.proofs.Proper.{proper}
 use Rattle.amr_labels.proofs.labels.Labels.of_pairs.Goals as goal
 
 is_some-option_copied : {X : Type 0} (o : Option (Bor X)) → is_some (option_copied o) ≡ is_some o
-is_some-option_copied None = refl
-is_some-option_copied (Some x) = refl
+is_some-option_copied o = grind arith
 
 pub returns-clause-proper : goal.returns-clause-proper
 returns-clause-proper c =
