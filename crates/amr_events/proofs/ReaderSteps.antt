@@ -1,8 +1,8 @@
 -- The steps of a reader of scripts.
-use Rattle.std.proofs.Common.{◌≡◌, ℕ, ◌+◌, ◌<◌, ◌≤◌, List, [], ◌∷◌, ◌++◌, length, Result, Ok, Err, OnOk, refl, sym, ap, ◌∙◌, subst, arith, append_assoc, length-append}
+use Rattle.std.proofs.Common.{◌≡◌, ℕ, ◌+◌, ◌<◌, ◌≤◌, List, [], ◌∷◌, ◌++◌, length, Result, Ok, Err, OnOk, refl, sym, arith, append_assoc, length-append}
 use Rattle.std.proofs.lemmas.List.{length_push}
 use Rattle.amr_events.specs.Answers.{IsStop, Stops, IsRefused}
-use Rattle.amr_events.specs.Scripts.{lines_of, longest_line, Script, ReadAs, HasFault, HasFirstFault, ScriptIs}
+use Rattle.amr_events.specs.Scripts.{lines_of, longest_line, Script, ReadAs, HasFault, ScriptIs}
 use Rattle.amr_events.specs.Drafts.{so_far, begins_with, Adds}
 use Rattle.amr_events.specs.ScriptReaders.{HasRead, Follows, IsRefusedAfter, IsOneLine}
 use Rattle.amr_events.specs.declared.draft.Draft.{Draft}
@@ -34,76 +34,53 @@ none_of (x ∷ l) none = absurd (omega (arith, none))
 
 module _ (xs ys : List ℕ) (old between : ScriptReader) where
   pub follows_more : (new : ScriptReader) → Follows xs old between → Follows ys between new → Follows (xs ++ ys) old new
-  follows_more new first then earlier has = subst (λ l. HasRead l new) (append_assoc earlier xs ys) (then (earlier ++ xs) (first earlier has))
+  follows_more new first then earlier has = rw append_assoc at (then (earlier ++ xs) (first earlier has))
 
   pub refused_later : (fault : Fault) → Follows xs old between → IsRefusedAfter ys between fault → IsRefusedAfter (xs ++ ys) old fault
-  refused_later fault first then earlier has rest = subst (λ l. ScriptIs (l ++ rest) (Err fault)) (append_assoc earlier xs ys) (then (earlier ++ xs) (first earlier has) rest)
+  refused_later fault first then earlier has rest = rw (← append_assoc earlier xs ys) (then (earlier ++ xs) (first earlier has) rest)
 
 pub refused_sooner : (xs ys : List ℕ) (old : ScriptReader) (fault : Fault) → IsRefusedAfter xs old fault → IsRefusedAfter (xs ++ ys) old fault
-refused_sooner xs ys old fault first earlier has rest =
-    subst (λ l. ScriptIs l (Err fault)) (sym (append_assoc (earlier ++ xs) ys rest) ∙ ap (λ l. l ++ rest) (append_assoc earlier xs ys)) (first earlier has (ys ++ rest))
+refused_sooner xs ys old fault first earlier has rest = rw (← append_assoc earlier xs ys, append_assoc (earlier ++ xs) ys rest) (first earlier has (ys ++ rest))
 
 -- ---- the steps
 
 pub none_read : (reader : ScriptReader) → ReadAs [] (so_far reader.draft) → reader.draft.number ≡ 1 → reader.unfinished.items ≡ [] → HasRead [] reader
-none_read reader read number none = record {
-  ended = [];
-  lines = ap (λ l. l ∷ []) (sym none);
-  read = read;
-  number = number;
-  short = subst (λ l. length l ≤ longest_line) (sym none) (omega arith);
-}
+none_read reader read number none = grind arith
 
 module _ (part : List ℕ) (old : ScriptReader) (one : IsOneLine part) where
   pub kept : (new : ScriptReader) → new.draft ≡ old.draft → new.unfinished.items ≡ old.unfinished.items ++ part → length new.unfinished.items ≤ longest_line → Follows part old new
-  kept new draft items short earlier has = record {
-    ended = has.ended;
-    lines = join part part [] one earlier has.ended old.unfinished.items has.lines ∙ ap (λ l. has.ended ++ l ∷ []) (sym items);
-    read = subst (λ (d : Draft). ReadAs has.ended (so_far d)) (sym draft) has.read;
-    number = ap (λ (d : Draft). d.number) draft ∙ has.number;
-    short = short;
-  }
+  kept new draft items short earlier has = grind (arith, join part part [] one earlier has.ended old.unfinished.items has.lines, has)
 
   pub too_long : longest_line < length old.unfinished.items + length part → IsRefusedAfter part old (LineTooLong old.draft.number)
   too_long long earlier has rest =
       let more = lines_in rest in
       let line = old.unfinished.items ++ part in
-      let all = join rest more.first more.others more.are (earlier ++ part) has.ended line (join part part [] one earlier has.ended old.unfinished.items has.lines) in
-      let still : longest_line < length (line ++ more.first) = omega (arith, long, length-append old.unfinished.items part, length-append line more.first) in
-      subst (λ ls. HasFirstFault ls (LineTooLong old.draft.number)) (sym all)
-      (fails_first has.ended (line ++ more.first) more.others old.draft.number (so_far old.draft) (LineTooLong old.draft.number) has.number has.read (refl, still))
+      let still : longest_line < length (line ++ more.0) = omega (arith, long, length-append old.unfinished.items part, length-append line more.0) in
+      rw (join rest more.0 more.1 more.2 (earlier ++ part) has.ended line (join part part [] one earlier has.ended old.unfinished.items has.lines))
+      (fails_first has.ended (line ++ more.0) more.1 old.draft.number (so_far old.draft) (LineTooLong old.draft.number) has.number has.read (refl, still))
 
   module _ (line : Line) (whole : line ≡ old.unfinished.items ++ part) where
+    ended : (earlier : List ℕ) (has : HasRead earlier old) (rest : List ℕ) → lines_of (earlier ++ (part ++ 10 ∷ rest)) ≡ has.ended ++ line ∷ lines_of rest
+    ended earlier has rest = rw whole (join (part ++ 10 ∷ rest) part (lines_of rest) (ended_line part rest one) earlier has.ended old.unfinished.items has.lines)
+
     pub line_ended : (new : ScriptReader) → Adds line (so_far old.draft) (so_far new.draft) → new.draft.number ≡ old.draft.number + 1 → new.unfinished.items ≡ [] → Follows (part ++ 10 ∷ []) old new
-    line_ended new adds number none earlier has = record {
-      ended = has.ended ++ line ∷ [];
-      lines = join (part ++ 10 ∷ []) part ([] ∷ []) (ended_line part [] one) earlier has.ended old.unfinished.items has.lines
-          ∙ ap (λ l. has.ended ++ l ∷ [] ∷ []) (sym whole) ∙ sym (append_assoc has.ended (line ∷ []) ([] ∷ []))
-          ∙ ap (λ l. has.ended ++ line ∷ [] ++ l ∷ []) (sym none);
-      read = reads_one_more has.ended line (so_far old.draft) (so_far new.draft) has.read adds;
-      number = let before = has.number in omega (arith, number, before, length_push has.ended line);
-      short = subst (λ l. length l ≤ longest_line) (sym none) (omega arith);
-    }
+    line_ended new adds number none earlier has =
+        let read = reads_one_more has.ended line (so_far old.draft) (so_far new.draft) has.read adds in
+        grind (arith, has, ended earlier has [], append_assoc has.ended (line ∷ []) ([] ∷ []), length_push has.ended line)
 
     pub line_fails : (fault : Fault) → HasFault old.draft.number (begins_with (so_far old.draft) line) line (so_far old.draft) fault → IsRefusedAfter (part ++ 10 ∷ []) old fault
     line_fails fault fails earlier has rest =
-        let bytes : earlier ++ (part ++ 10 ∷ []) ++ rest ≡ earlier ++ (part ++ 10 ∷ rest) =
-        append_assoc earlier (part ++ 10 ∷ []) rest ∙ ap (λ l. earlier ++ l) (append_assoc part (10 ∷ []) rest) in
-        let all = join (part ++ 10 ∷ rest) part (lines_of rest) (ended_line part rest one) earlier has.ended old.unfinished.items has.lines ∙ ap (λ l. has.ended ++ l ∷ lines_of rest) (sym whole) in
-        subst (λ l. ScriptIs l (Err fault)) (sym bytes)
-        (subst (λ ls. HasFirstFault ls fault) (sym all) (fails_first has.ended line (lines_of rest) old.draft.number (so_far old.draft) fault has.number has.read fails))
+        rw (append_assoc earlier (part ++ 10 ∷ []) rest, append_assoc part (10 ∷ []) rest, ended earlier has rest)
+        (fails_first has.ended line (lines_of rest) old.draft.number (so_far old.draft) fault has.number has.read fails)
 
 -- ---- the end
 
-module _ (bytes : List ℕ) (reader : ScriptReader) (has : HasRead bytes reader) where
-  module _ (line : Line) (whole : line ≡ reader.unfinished.items) where
-    all : lines_of bytes ≡ has.ended ++ line ∷ []
-    all = has.lines ∙ ap (λ l. has.ended ++ l ∷ []) (sym whole)
-
-    pub last_read : (new : Draft) (script : Script) → script.version ≡ new.version → script.events ≡ new.events.items → Adds line (so_far reader.draft) (so_far new) → ScriptIs bytes (Ok script)
-    last_read new script version events adds =
-        let same : so_far new ≡ script = λ i. record { version = sym version i; events = sym events i } in
-        subst (ReadAs (lines_of bytes)) same (subst (λ ls. ReadAs ls (so_far new)) (sym all) (reads_one_more has.ended line (so_far reader.draft) (so_far new) has.read adds))
+pub last_read : (bytes : List ℕ) (reader : ScriptReader) → HasRead bytes reader → (line : Line) → line ≡ reader.unfinished.items → (new : Draft) (script : Script)
+    → script.version ≡ new.version → script.events ≡ new.events.items → Adds line (so_far reader.draft) (so_far new) → ScriptIs bytes (Ok script)
+last_read bytes reader has line whole new script version events adds =
+    let same : so_far new ≡ script = λ i. record { version = sym version i; events = sym events i } in
+    let read = reads_one_more has.ended line (so_far reader.draft) (so_far new) has.read adds in
+    rw (has.lines, ← whole, ← same) read
 
 pub stop_refuses : {Y : Type 0} {P : Fault → Type 0} (Is : Result Y Fault → Type 0) (e : ScriptError) → ((fault : Fault) → P fault → Is (Err fault)) → IsStop P e → IsRefused Is e
 stop_refuses Is Memory f stop = tt

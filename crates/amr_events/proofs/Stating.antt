@@ -1,69 +1,35 @@
 -- Values that the tokens of a line state, a member or an item at a time.
-use Rattle.std.proofs.Common.{◌≡◌, ℕ, ◌-◌, ◌<◌, ◌≤◌, List, [], ◌∷◌, ◌++◌, length, append_assoc, append-nil, Option, Some, None, option_map, option_and_then, refl, sym, ap, ◌∙◌, arith}
+use Rattle.std.proofs.Common.{◌≡◌, ℕ, ◌-◌, ◌<◌, ◌≤◌, List, [], ◌∷◌, ◌++◌, length, append_assoc, append-nil, Option, Some, None, option_map, refl, ap, ◌∙◌, arith}
 use Rattle.json.specs.Token.{Token}
 use Rattle.json.specs.Lex.{tokens}
-use Rattle.json.specs.Json as json
 use Rattle.json.specs.Json.{parse_map, after_end_array, read_key, items, members, value}
 use Rattle.json.proofs.Grammar.{value_is, value-begin_array, value-begin_object, items_end, items_more, members_end, members_more}
 use Rattle.serde_json.specs.Data.{Data, string, array, object, Items, item, Members, no_members, put}
 use Rattle.serde_json.specs.Read.{of_json, of_items, of_members, converted, read}
-use Rattle.amr_events.specs.Shapes.{◌>>=◌, each_item}
+use Rattle.amr_events.specs.Shapes.{each_item}
 use Rattle.amr_events.specs.Tokens.{States}
-
-abbrev pick : {A : Type 0} → A → Option A → A
-pick d None = d
-pick d (Some a) = a
-
-found : {B : Type 0} (r s : List Token) (o : Option B) (b : B) → option_map {U = B × List Token} (λ y. (y, r)) o ≡ Some (b, s) → (r ≡ s) × (o ≡ Some b)
-found r s None b e = absurd (let no : ⊥ = cc in no)
-found r s (Some y) b e = let same = ap (pick (y, r)) e in (ap (λ p. p.1) same, ap (λ p. Some p.0) same)
 
 -- what was read and converted had been read
 was_read : {A B : Type 0} (f : A → Option B) (o : Option (A × List Token)) (b : B) (rest : List Token) → converted f o ≡ Some (b, rest) → (a : A) × (o ≡ Some (a, rest)) × (f a ≡ Some b)
-was_read f None b rest e = absurd (let no : ⊥ = cc in no)
-was_read f (Some p) b rest e = let both = found p.1 rest (f p.0) b e in (p.0, ap (λ s. Some (p.0, s)) both.0, both.1)
-
-mapped : {A B : Type 0} (g : A → B) (rest : List Token) (o : Option A) → option_map (λ b. (b, rest)) (option_map g o) ≡ parse_map g (option_map (λ a. (a, rest)) o)
-mapped g rest None = refl
-mapped g rest (Some a) = refl
-
-of_array : (o : Option (json.Items × List Token)) → converted of_json (parse_map json.array o) ≡ parse_map array (converted of_items o)
-of_array None = refl
-of_array (Some p) = mapped array p.1 (of_items p.0)
-
-of_object : (o : Option (json.Members × List Token)) → converted of_json (parse_map json.object o) ≡ parse_map object (converted (λ ms. of_members ms no_members) o)
-of_object None = refl
-of_object (Some p) = mapped object p.1 (of_members p.0 no_members)
-
-after_item : (j : json.Json) (d : Data) → of_json j ≡ Some d → (o : Option (json.Items × List Token)) → converted of_items (parse_map (json.item j) o) ≡ parse_map (item d) (converted of_items o)
-after_item j d e None = refl
-after_item j d e (Some p) = rw e (mapped (item d) p.1 (of_items p.0))
-
-after_member : (k : List ℕ) (j : json.Json) (d : Data) (old : Members) → of_json j ≡ Some d → (o : Option (json.Members × List Token))
-    → converted (λ ms. of_members ms old) (parse_map (json.member k j) o) ≡ converted (λ ms. of_members ms (put k d old)) o
-after_member k j d old e None = refl
-after_member k j d old e (Some p) = rw e
+was_read f o b rest e = grind arith
 
 item_read : (depth n : ℕ) (ts r : List Token) (d : Data) → 0 < n → after_end_array ts ≡ None → converted of_json (value depth ts) ≡ Some (d, r)
     → converted of_items (items (value depth) n ts) ≡ parse_map (item d) (converted of_items (items (value depth) (n - 1) r))
 item_read depth n ts r d some going e =
     let j = was_read of_json (value depth ts) d r e in
-    ap (converted of_items) (items_more (value depth) n ts r j.0 some going j.1) ∙ after_item j.0 d j.2 _
+    grind (arith, items_more (value depth) n ts r j.0 some going j.1, j.2)
 
 member_read : (depth n : ℕ) (k : List ℕ) (ts s r : List Token) (d : Data) (old : Members) → 0 < n → read_key ts ≡ Some (Some k, s) → converted of_json (value depth s) ≡ Some (d, r)
     → converted (λ ms. of_members ms old) (members (value depth) n ts) ≡ converted (λ ms. of_members ms (put k d old)) (members (value depth) (n - 1) r)
 member_read depth n k ts s r d old some key e =
     let j = was_read of_json (value depth s) d r e in
-    ap (converted (λ ms. of_members ms old)) (members_more (value depth) n k ts s r j.0 some key j.1) ∙ after_member k j.0 d old j.2 _
+    grind (arith, members_more (value depth) n k ts s r j.0 some key j.1, j.2)
 
 module _ (depth : ℕ) where
-  text_read : (tokens rest : List Token) (text : List ℕ) → tokens ≡ Token.string text ∷ rest → converted of_json (value depth tokens) ≡ Some (string text, rest)
-  text_read tokens rest text is = ap (converted of_json) (ap (value depth) is ∙ value_is depth _)
-
   pub states_text : (Is : Data → Type 0) (tokens rest : List Token) (text : List ℕ) → tokens ≡ Token.string text ∷ rest → Is (string text) → States Is depth tokens rest
   states_text Is tokens rest text is such = record {
     stated = string text;
-    read = text_read tokens rest text is;
+    read = rw (is, value_is depth _) refl;
     such = such;
   }
 
@@ -74,7 +40,7 @@ module _ (depth : ℕ) where
       → converted (λ ms. of_members ms no_members) (members (value (depth - 1)) (length inner) inner) ≡ Some (found, rest) → Is (object found) → States Is depth tokens rest
   states_object Is tokens inner rest found some is read such = record {
     stated = object found;
-    read = ap (converted of_json) (ap (value depth) is ∙ value-begin_object depth inner some) ∙ of_object (members (value (depth - 1)) (length inner) inner) ∙ ap (parse_map object) read;
+    read = grind (arith, ap (value depth) is, value-begin_object depth inner some);
     such = such;
   }
 
@@ -82,7 +48,7 @@ module _ (depth : ℕ) where
       → converted of_items (items (value (depth - 1)) (length inner) inner) ≡ Some (found, rest) → Is (array found) → States Is depth tokens rest
   states_array Is tokens inner rest found some is read such = record {
     stated = array found;
-    read = ap (converted of_json) (ap (value depth) is ∙ value-begin_array depth inner some) ∙ of_array (items (value (depth - 1)) (length inner) inner) ∙ ap (parse_map array) read;
+    read = grind (arith, ap (value depth) is, value-begin_array depth inner some);
     such = such;
   }
 
@@ -108,70 +74,47 @@ module _ (depth : ℕ) where
 
   pub one_more_text : (start now after rest : List Token) (found : Members) (key text : List ℕ) → MembersLeft start now found → read_key now ≡ Some (Some key, after) → length after < length now → length rest < length after
       → after ≡ Token.string text ∷ rest → MembersLeft start rest (put key (string text) found)
+  unfolding states_text
   one_more_text start now after rest found key text left named less lesser is =
-      one_more_member (λ d. d ≡ string text) start now after rest found key left named less lesser (record { stated = string text; read = text_read after rest text is; such = refl })
+      one_more_member (λ d. d ≡ string text) start now after rest found key left named less lesser (states_text (λ d. d ≡ string text) after rest text is refl)
 
   pub all_members_read : (start now rest : List Token) (found : Members) → MembersLeft start now found → read_key now ≡ Some (None, rest)
       → converted (λ ms. of_members ms no_members) (members (value depth) (length start) start) ≡ Some (found, rest)
-  all_members_read start now rest found left closed = left.same ∙ ap (converted (λ ms. of_members ms found)) (members_end (value depth) left.turns now rest left.enough closed)
+  all_members_read start now rest found left closed = left.same ∙ rw (members_end (value depth) left.turns now rest left.enough closed) refl
 
 -- ---- the items of an array, each read as something
 
-module _ {A : Type 0} (reads : Data → Option A) where
-  abbrev pub items_read : ℕ → ℕ → List Token → Option (List A × List Token)
-  items_read depth turns now = converted (each_item reads) (converted of_items (items (value depth) turns now))
+module _ {A : Type 0} (reads : Data → Option A) (depth : ℕ) where
+  abbrev pub items_read : ℕ → List Token → Option (List A × List Token)
+  items_read turns now = converted (each_item reads) (converted of_items (items (value depth) turns now))
 
   abbrev pub onto : List A → Option (List A × List Token) → Option (List A × List Token)
   onto front read = option_map (λ p. (front ++ p.0, p.1)) read
 
-  with_item : (d : Data) (x : A) → reads d ≡ Some x → (ds : Items) (rest : List Token) → option_map {U = List A × List Token} (λ xs. (xs, rest)) (each_item reads (item d ds)) ≡ onto (x ∷ []) (option_map (λ xs. (xs, rest)) (each_item reads ds))
-  with_item d x is ds rest = ap (λ o. option_map (λ xs. (xs, rest)) (o >>= λ y. each_item reads ds >>= λ ys. Some (y ∷ ys))) is ∙ first (each_item reads ds)
-    where
-      first : (o : Option (List A)) → option_map {U = List A × List Token} (λ xs. (xs, rest)) (o >>= λ ys. Some (x ∷ ys)) ≡ onto (x ∷ []) (option_map (λ xs. (xs, rest)) o)
-      first None = refl
-      first (Some xs) = refl
+  -- the items of an array that begins at one position have been read up to another
+  pub record ItemsLeft (start now : List Token) (front : List A) : Type 0 where
+    pub turns : ℕ
+    pub enough : length now ≤ turns
+    pub same : items_read (length start) start ≡ onto front (items_read turns now)
 
-  with_first : (d : Data) (x : A) → reads d ≡ Some x → (o : Option (Items × List Token)) → converted (each_item reads) (parse_map (item d) o) ≡ onto (x ∷ []) (converted (each_item reads) o)
-  with_first d x is None = refl
-  with_first d x is (Some p) = with_item d x is p.0 p.1
+  pub one_more_item : (start now rest : List Token) (front : List A) (x : A) → ItemsLeft start now front → after_end_array now ≡ None → length rest < length now
+      → States (λ d. reads d ≡ Some x) depth now rest → ItemsLeft start rest (front ++ x ∷ [])
+  one_more_item start now rest front x left going less stated =
+      let n = left.turns in
+      let enough = left.enough in
+      record {
+        turns = n - 1;
+        enough = omega arith;
+        same = grind (arith, left.same, item_read depth n now rest stated.stated (omega arith) going stated.read, stated.such, append_assoc front (x ∷ []));
+      }
 
-  onto_push : (front : List A) (x : A) (o : Option (List A × List Token)) → onto front (onto (x ∷ []) o) ≡ onto (front ++ x ∷ []) o
-  onto_push front x None = refl
-  onto_push front x (Some p) = ap (λ xs. Some (xs, p.1)) (sym (append_assoc front (x ∷ []) p.0))
-
-  module _ (depth : ℕ) where
-    -- the items of an array that begins at one position have been read up to another
-    pub record ItemsLeft (start now : List Token) (front : List A) : Type 0 where
-      pub turns : ℕ
-      pub enough : length now ≤ turns
-      pub same : items_read depth (length start) start ≡ onto front (items_read depth turns now)
-
-    pub one_more_item : (start now rest : List Token) (front : List A) (x : A) → ItemsLeft start now front → after_end_array now ≡ None → length rest < length now
-        → States (λ d. reads d ≡ Some x) depth now rest → ItemsLeft start rest (front ++ x ∷ [])
-    one_more_item start now rest front x left going less stated =
-        let n = left.turns in
-        let enough = left.enough in
-        record {
-          turns = n - 1;
-          enough = omega arith;
-          same =
-              left.same
-              ∙ ap (λ read. onto front (converted (each_item reads) read)) (item_read depth n now rest stated.stated (omega arith) going stated.read)
-              ∙ ap (onto front) (with_first stated.stated x stated.such _)
-              ∙ onto_push front x _;
-        }
-
-    pub all_items_read : (start now rest : List Token) (front : List A) → ItemsLeft start now front → after_end_array now ≡ Some rest
-        → (ds : Items) × (converted of_items (items (value depth) (length start) start) ≡ Some (ds, rest)) × (each_item reads ds ≡ Some front)
-    all_items_read start now rest front left closed =
-        was_read (each_item reads) _ front rest (
-        left.same
-        ∙ ap (λ read. onto front (converted (each_item reads) read)) (ap (converted of_items) (items_end (value depth) left.turns now rest left.enough closed))
-        ∙ ap (λ xs. Some (xs, rest)) (append-nil front)
-        )
+  pub all_items_read : (start now rest : List Token) (front : List A) → ItemsLeft start now front → after_end_array now ≡ Some rest
+      → (ds : Items) × (converted of_items (items (value depth) (length start) start) ≡ Some (ds, rest)) × (each_item reads ds ≡ Some front)
+  all_items_read start now rest front left closed =
+      was_read (each_item reads) _ front rest (left.same ∙ rw (items_end (value depth) left.turns now rest left.enough closed) (simp append-nil))
 
 -- a text that states a value and nothing else
 pub whole_read : (text : List ℕ) (d : Data) → converted of_json (value 127 (tokens text)) ≡ Some (d, []) → read text ≡ Some d
 whole_read text d e =
     let j = was_read of_json (value 127 (tokens text)) d [] e in
-    ap (λ o. option_and_then of_json (option_and_then (λ p. json.if_last p.0 p.1) o)) j.1 ∙ j.2
+    grind (arith, j.1, j.2)

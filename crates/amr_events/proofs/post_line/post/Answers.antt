@@ -1,4 +1,4 @@
-use Rattle.std.proofs.Common.{◌≡◌, ◌∷◌, List, codes, Option, Some, None, option_and_then, refl, ap, ◌∙◌, arith, rules}
+use Rattle.std.proofs.Common.{◌≡◌, ◌∷◌, List, codes, Some, None, option_and_then, arith, rules}
 use Rattle.json.specs.Token.{Token}
 use Rattle.json.specs.Json.{read_key}
 use Rattle.json.proofs.Grammar.{read_key-shorter}
@@ -8,31 +8,19 @@ use Rattle.amr_time.specs.Time.{Moment}
 use Rattle.amr_time.specs.MomentRead.{moment_at}
 use Rattle.amr_events.specs.Actions.Events as events
 use Rattle.amr_events.specs.declared.posts.posted_alert.PostedAlert.{PostedAlert}
-use Rattle.amr_events.specs.Shapes.{◌>>=◌, moment_under}
+use Rattle.amr_events.specs.Shapes.{moment_under}
 use Rattle.amr_events.specs.Posted.{alerts_of}
 use Rattle.amr_events.specs.Lines.{act_count, post_of, act_in}
 use Rattle.amr_events.specs.Refused.{EventIs}
 use Rattle.amr_events.specs.declared.version.Version.{Version}
-use Rattle.amr_events.specs.declared.version.Version.TheVariants.{One, Two}
 use Rattle.amr_events.proofs.Stating.{states_object, no_member_read, one_more_member, all_members_read}
 use Rattle.amr_events.proofs.post_line.post.Goals as goal
-
-chosen : {A B : Type 0} (o : Option A) (f : A → Option B) → (o >>= f) ≡ option_and_then f o
-chosen None f = refl
-chosen (Some a) f = refl
 
 -- an object with a moment and alerts is a post, in both versions
 is_post : (stated_at stated_alerts : Data) (at : Moment) (alerts : List PostedAlert) → option_and_then moment_at (as_str stated_at) ≡ Some at → alerts_of stated_alerts ≡ Some alerts
     → (version : Version) → EventIs version (object (put (codes "alerts") stated_alerts (put (codes "at") stated_at no_members))) (record { at = at; act = events.Act.Post alerts })
 unfolding moment_under act_count post_of act_in
-is_post stated_at stated_alerts at alerts moment posted One = record {
-  at = chosen (as_str stated_at) moment_at ∙ moment;
-  act = ap (λ o. o >>= λ alerts. Some (events.Act.Post alerts)) posted;
-}
-is_post stated_at stated_alerts at alerts moment posted Two = record {
-  at = chosen (as_str stated_at) moment_at ∙ moment;
-  act = ap (λ o. o >>= λ alerts. Some (events.Act.Post alerts)) posted;
-}
+is_post stated_at stated_alerts at alerts moment posted version = grind arith
 
 pub returns : goal.returns
 returns c =

@@ -1,4 +1,5 @@
 use Rattle.std.proofs.Common.{◌≡◌, ℕ, ◌-◌, ◌<◌, ◌∷◌, [], ◌++◌, length, Some, ap, ◌∙◌, arith, rules}
+use Rattle.std.proofs.lemmas.List.{map-append}
 use Rattle.json.specs.Token.{Token}
 use Rattle.json.specs.Json.{read_key}
 use Rattle.json.proofs.Grammar.{read_key-shorter}
@@ -6,7 +7,7 @@ use Rattle.amr_events.specs.Shapes.{texts_in}
 use Rattle.amr_events.specs.Tokens.{IsAfter}
 use Rattle.amr_labels.specs.Lent.{lent_texts}
 use Rattle.amr_events.proofs.Stating.{states_object, all_members_read, one_more_text}
-use Rattle.amr_events.proofs.Pairs.{text_members, texts_of_members, ascend_push, put_last_text, spelled_push}
+use Rattle.amr_events.proofs.Pairs.{text_members, texts_of_members, ascend_push, put_last_text}
 use Rattle.amr_events.proofs.posted_tokens.usual_texts.Goals as goal
 
 pub returns-in-Ok-None-clause-read : goal.returns-in-Ok-None-clause-read
@@ -24,7 +25,7 @@ loop-texts-preserved c =
     let text = c.in-Some.text.now in
     let named : read_key c.loop-texts.reader ≡ Some (Some name, c.next_key.new.self) = grind arith in
     let after : IsAfter name (lent_texts old) = search rules in
-    let pushed : lent_texts c.push.new.self.items ≡ lent_texts old ++ (name, text) ∷ [] = ap lent_texts c.in_ok-push-in-Ok-Some.ensures.items ∙ spelled_push old (c.in-Ok-Some.name, c.in-Some.text) in
+    let pushed : lent_texts c.push.new.self.items ≡ lent_texts old ++ (name, text) ∷ [] = ap lent_texts c.in_ok-push-in-Ok-Some.ensures.items ∙ map-append _ old _ in
     let less = read_key-shorter c.loop-texts.reader (Some name) c.next_key.new.self named in
     let lesser : length c.string.new.reader < length c.next_key.new.self = grind (arith, c.in-Some.ensures) in
     let ascend = c.loop-texts.invariant.ascend in

@@ -1,4 +1,4 @@
-use Rattle.std.proofs.Common.{◌≡◌, [], ◌∷◌, ◌++◌, length, refl, ap, sym, ◌∙◌, arith, append-nil}
+use Rattle.std.proofs.Common.{[], ◌∷◌, ◌++◌, refl, ap, sym, ◌∙◌, arith, append-nil}
 use Rattle.std.proofs.lemmas.Bool.Decides.{nat_tests}
 use Rattle.std.proofs.lemmas.Result.{err_from_is_err_and}
 use Rattle.amr_events.proofs.ReaderSteps.{none_of, stop_map, stops_map, both_ok, follows_more, refused_later, refused_sooner, line_ended, line_fails}
@@ -8,16 +8,14 @@ pub returns-then-is_empty-clause-read : goal.returns-then-is_empty-clause-read
 returns-then-is_empty-clause-read c =
     let rest = c.args.rest.now in
     let old = c.args.self.now in
-    let empty : length old.unfinished.items ≡ 0 = grind (arith, nat_tests) in
-    let none = none_of old.unfinished.items empty in
+    let none = none_of old.unfinished.items (grind (arith, nat_tests)) in
     both_ok c.add_line.result (λ adds number. line_ended rest old c.requires rest (ap (λ l. l ++ rest) (sym none)) _ adds number none) c.add_line.ensures.added c.add_line.ensures.counted
 
 pub returns-then-is_empty-clause-refused : goal.returns-then-is_empty-clause-refused
 returns-then-is_empty-clause-refused c =
     let rest = c.args.rest.now in
     let old = c.args.self.now in
-    let empty : length old.unfinished.items ≡ 0 = grind (arith, nat_tests) in
-    let none = none_of old.unfinished.items empty in
+    let none = none_of old.unfinished.items (grind (arith, nat_tests)) in
     stops_map c.add_line.result (line_fails rest old c.requires rest (ap (λ l. l ++ rest) (sym none))) c.add_line.ensures.fault
 
 pub returns-in_err-keep-clause-refused : goal.returns-in_err-keep-clause-refused
