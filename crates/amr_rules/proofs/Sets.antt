@@ -1,38 +1,23 @@
 -- A set doesn't depend on the order of the list that it is made from.
-use Rattle.std.proofs.Common.{◌≡◌, Bool, true, false, ◌||◌, Some, None, List, [], ◌∷◌, reverse, cond, refl, sym, ap, ◌∙◌}
+use Rattle.std.proofs.Common.{◌≡◌, Bool, Some, None, List, [], ◌∷◌, reverse, cond, refl, sym, ap, ◌∙◌, arith}
 use Rattle.std.specs.declared.cmp.Ordering.{Ordering}
 use Rattle.std.specs.Ordering.{eq_by_cmp}
 use Rattle.std.specs.Cmp.{IsTotalOrder}
 use Rattle.std.specs.FinMap.{IsAntisymmetric}
 use Rattle.std.specs.List.{list_any}
-use Rattle.std.proofs.lemmas.List.{reverse-append}
-use Rattle.std.proofs.lemmas.List.Folds.{list_any-append}
+use Rattle.std.proofs.lemmas.Grind.{common_steps}
 use Rattle.amr_labels.specs.Map.{get, get-empty, get-insert, same_map}
 use Rattle.amr_labels.specs.Set.{from_list}
 
-either : {A : Type 0} (a b : Bool) (x y : A) → cond a x (cond b x y) ≡ cond (a || b) x y
-either true b x y = refl
-either false b x y = refl
-
-swapped : (a b : Bool) → (a || (b || false)) ≡ (b || a)
-swapped true true = refl
-swapped true false = refl
-swapped false true = refl
-swapped false false = refl
-
 list_any-reverse : {K : Type 0} (test : K → Bool) (ks : List K) → list_any test (reverse ks) ≡ list_any test ks
 list_any-reverse test [] = refl
-list_any-reverse test (k ∷ ks) =
-    ap (list_any test) (reverse-append (k ∷ []) ks) ∙ list_any-append test (reverse ks) (k ∷ [])
-    ∙ ap (λ b. b || (test k || false)) (list_any-reverse test ks) ∙ swapped (list_any test ks) (test k)
+list_any-reverse test (k ∷ ks) = grind (arith, common_steps, list_any-reverse test ks)
 
 module _ {K : Type 0} {R : K → K → Ordering} (o : IsTotalOrder R) where
   -- a set has the keys of the list
   pub get-from_list : (ks : List K) (q : K) → get (from_list {R = R} ks) q ≡ cond (list_any (eq_by_cmp R q) ks) (Some tt) None
   get-from_list [] q = get-empty R q
-  get-from_list (k ∷ ks) q =
-      get-insert o (from_list ks) k tt q ∙ ap (cond (eq_by_cmp R q k) (Some tt)) (get-from_list ks q)
-      ∙ either (eq_by_cmp R q k) (list_any (eq_by_cmp R q) ks) (Some tt) None
+  get-from_list (k ∷ ks) q = grind (arith, get-insert o (from_list ks) k tt q, get-from_list ks q)
 
   pub from_list-reverse : IsAntisymmetric R → (ks : List K) → from_list {R = R} (reverse ks) ≡ from_list ks
   from_list-reverse same ks =
