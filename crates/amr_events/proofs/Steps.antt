@@ -1,5 +1,5 @@
--- A loop over the items of a list or the members of an object reads what the definition does: what it
--- has read, with what is left, is all.
+-- A loop over the items of a list or the members of an object reads what the definition does: what
+-- it has read, with what is left, is all.
 use Rattle.std.proofs.Common.{◌≡◌, ℕ, List, [], ◌∷◌, ◌++◌, Option, Some, None, arith, append_assoc, String, string_bytes}
 use Rattle.std.specs.declared.alloc.Global.{Global}
 use Rattle.serde_json.specs.Data.{Data}

@@ -18,8 +18,8 @@ module _ {X : Type 0} where
   list_all-filter kept [] = refl
   list_all-filter kept (x ∷ xs) = grind (arith, list_all-filter kept xs)
 
--- A source matches the source side of the rule, and agrees with the target on the labels of the rule.
--- So the first source among those that do is the first of all.
+-- A source matches the source side of the rule, and agrees with the target on the labels of the
+-- rule. So the first source among those that do is the first of all.
 pub first-sources_of : (now : Moment) (rule : InhibitRule) (target : LabelSet) (alerts : Alerts) → first_source now rule target (sources_of rule target alerts) ≡ inhibitor_by now target alerts rule
 first-sources_of now rule target alerts =
     ap (option_map (λ source. source.0))

@@ -24,6 +24,7 @@ use std::alloc::{AllocError, Global};
 use std::cmp::Ordering;
 
 /// Returns the least id of a silence that mutes labels at a moment, or `None` if no silence does.
+#[tactic(auto, using(std::proofs::lemmas::Grind::common_steps, crate::proofs::MutingLaws::named))]
 pub fn silenced_by(
     alloc: Global,
     silences: &Keyed<SilenceId, Silence>,
@@ -65,6 +66,7 @@ fn silences_labels(
 /// least label set of a stored alert by which it does. Returns `None` if nothing inhibits them
 /// (`inhibit_rules` of Alertmanager's configuration). `matched` says which sides of each rule the
 /// labels are on (`rule_matches` of `amr_config`), so no matcher is asked for them.
+#[tactic(auto, using(std::proofs::lemmas::Grind::common_steps, crate::proofs::MutingLaws::named))]
 pub fn inhibited_by<A: AlertStore>(
     alloc: Global,
     rules: &[InhibitRule],

@@ -69,6 +69,7 @@ pub fn unexpired(
 
 /// Lists those of these silences that match labels and aren't expired at a moment, with their
 /// periods. It asks the patterns of the matchers through the cached answers.
+#[tactic(auto, using(std::proofs::lemmas::Grind::common_steps, crate::proofs::LaterSilences::periods_later))]
 pub fn silence_periods(
     alloc: Global,
     answers: &mut MatchCache,
@@ -108,6 +109,7 @@ fn may_silence(
 
 /// Returns the id of the first of these periods that a moment is in. That is the silence that mutes
 /// the labels for which `silence_periods` listed them, at this moment or before.
+#[tactic(auto, using(std::proofs::lemmas::Grind::common_steps, crate::proofs::SilencePeriods::silencer_in))]
 pub fn silenced_in(now: Moment, periods: &[SilencePeriod]) -> Option<SilenceId>
     ensures first { result ≡ silenced_in now periods.now }
     ensures silencer { (from : Moment) (labels : LabelSet) (silences : Silences) → from ≤ now

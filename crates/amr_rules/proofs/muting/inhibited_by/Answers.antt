@@ -1,17 +1,7 @@
 use Rattle.std.proofs.Common.{length, sym, ap, ◌∙◌, arith}
-use Rattle.std.proofs.lemmas.Grind.{common_steps}
 use Rattle.std.proofs.lemmas.List.{get_or-map, length-map}
 use Rattle.amr_config.specs.Stated.RuleMatches.{rule_match, rule_matches}
-use Rattle.amr_rules.proofs.MutingLaws.{is_inhibited-named}
 use Rattle.amr_rules.proofs.muting.inhibited_by.Goals as goal
-
-pub returns-in-Some-clause-exactly : goal.returns-in-Some-clause-exactly
-returns-in-Some-clause-exactly g c =
-    grind (arith, common_steps, is_inhibited-named c.args.rules.now (g.A.AlertStore.alerts c.args.alerts.now) c.args.now c.args.target.now)
-
-pub returns-clause-exactly : goal.returns-clause-exactly
-returns-clause-exactly g c =
-    grind (arith, common_steps, is_inhibited-named c.args.rules.now (g.A.AlertStore.alerts c.args.alerts.now) c.args.now c.args.target.now)
 
 pub bounds-matched-index : goal.bounds-matched-index
 unfolding rule_matches
