@@ -1,11 +1,8 @@
 -- Configurations that are alike give the same groups and the same sides.
-use Rattle.std.proofs.Common.{◌≡◌, ℕ, Bool, true, false, not, List, [], ◌∷◌, ◌<◌, length, get_or, map, Option, Some, None, refl, sym, ap, subst, ◌∙◌}
-use Rattle.std.specs.Prelude.{◌&&◌, zero, suc, nat_lt, ◌==◌, slice_get, option_map}
-use Rattle.std.specs.Bool.{Decides}
+use Rattle.std.proofs.Common.{◌≡◌, ℕ, Bool, true, false, not, List, [], ◌∷◌, ◌<◌, length, get_or, map, None, refl, sym, ap, subst, ◌∙◌, ◌&&◌, zero, suc, nat_lt, ◌==◌, slice_get, Decides, Ordering, arith}
 use Rattle.std.specs.Cmp.{IsTotalOrder}
 use Rattle.std.specs.Cmp.Lexicographic.{pointwise, nat_list_cmp_total}
 use Rattle.std.specs.FinMap.{IsAntisymmetric}
-use Rattle.std.specs.declared.cmp.Ordering.{Ordering}
 use Rattle.std.specs.Ordering.{eq_by_cmp}
 use Rattle.std.proofs.lemmas.Bool.{false≢true}
 use Rattle.std.proofs.lemmas.Cmp.{eq_by_cmp_equiv}
@@ -27,13 +24,9 @@ use Rattle.amr_config.specs.Alike.{RoutingPart, routing_part, sides, AreAlike}
 use Rattle.amr_config.specs.Groups.{groups_of, routing_to_cache}
 use Rattle.amr_config.specs.Routing.{route_numbers, parent_of, line_within, line_of, matches_route, is_child, is_cut_off, route_is, first_stated, inherited_value, grouped_by, chosen_routes, group_of}
 
-of_mapped : {X Y Z : Type 0} (f : Y → Z) (v : X → Y) (d : Z) (o : Option X) → option_map_or f (option_map v o) d ≡ option_map_or (λ x. f (v x)) o d
-of_mapped f v d None = refl
-of_mapped f v d (Some x) = refl
-
 module _ (a b : Config) (same : map routing_part a.routes ≡ map routing_part b.routes) where
   at_index : {X : Type 0} (f : RoutingPart → X) (d : X) (routes : List Route) (n : ℕ) → option_map_or f (slice_get (map routing_part routes) n) d ≡ option_map_or (λ route. f (routing_part route)) (slice_get routes n) d
-  at_index f d routes n = ap (λ o. option_map_or f o d) (slice_get-map routing_part routes n) ∙ of_mapped f routing_part d (slice_get routes n)
+  at_index f d routes n = grind (arith, slice_get-map routing_part routes n)
 
   part : {X : Type 0} (f : RoutingPart → X) (d : X) (n : ℕ) → option_map_or (λ route. f (routing_part route)) (slice_get a.routes n) d ≡ option_map_or (λ route. f (routing_part route)) (slice_get b.routes n) d
   part f d n = sym (at_index f d a.routes n) ∙ ap (λ parts. option_map_or f (slice_get parts n) d) same ∙ at_index f d b.routes n
@@ -97,18 +90,13 @@ pub second_decides : {P Q R : Type 0} (s : Bool) → P → Decides s Q → (P �
 second_decides s first second make part = (λ yes. make first (second.0 yes), λ r. second.1 (part r))
 
 pub first_fails : {P R : Type 0} (v r : Bool) → Decides r P → (R → P) → r ≡ false → v ≡ false → Decides v R
-first_fails v r first part fails is = (λ yes. absurd (false≢true (sym is ∙ yes)), λ r. absurd (false≢true (sym fails ∙ first.1 (part r))))
+first_fails v r first part fails is = (λ yes. absurd (cc), λ r. absurd (false≢true (sym fails ∙ first.1 (part r))))
 
 -- ---- lists whose elements are alike, one by one
 
 module _ {X Y : Type 0} (f : X → Y) (xs ys : List X) (k : ℕ) (x y : X) (within : k < length xs) (within_other : k < length ys) (x_is : x ≡ get_or xs k x) (y_is : y ≡ get_or ys k y) where
-  alike_at : map f xs ≡ map f ys → f x ≡ f y
-  alike_at same =
-      ap f x_is ∙ sym (get_or-map f xs k x (f x) within) ∙ ap (λ zs. get_or zs k (f x)) same
-      ∙ get_or-map f ys k y (f x) within_other ∙ ap f (sym y_is)
-
   pub unlike_at : (r : Bool) → Decides r (f x ≡ f y) → r ≡ false → Decides false (map f xs ≡ map f ys)
-  unlike_at r alike fails = first_fails false r alike alike_at fails refl
+  unlike_at r alike fails = first_fails false r alike (λ same. grind (arith, get_or-map f xs k x (f x), get_or-map f ys k y (f x))) fails refl
 
 -- values that compare as equal are the same
 pub tie_decides : {K : Type 0} {R : K → K → Ordering} → IsTotalOrder R → IsAntisymmetric R → (x y : K) → Decides (eq_by_cmp R x y) (x ≡ y)

@@ -1,9 +1,8 @@
 -- Caches of answers for label sets: without an answer, with one more, and under another configuration.
-use Rattle.std.proofs.Common.{arith, ◌≡◌, ℕ, Bool, true, false, List, Bor, cond, Option, None, Some, refl, sym, ap, subst, ◌∙◌}
+use Rattle.std.proofs.Common.{arith, ◌≡◌, ℕ, true, List, Bor, Option, None, Some, sym, ap, subst, ◌∙◌}
 use Rattle.std.specs.Ordering.{eq_by_cmp}
 use Rattle.std.specs.Slice.{IsItemAt}
 use Rattle.std.proofs.lemmas.List.Elements.{All-weaker}
-use Rattle.std.proofs.lemmas.Option.{none-some, same_Some}
 use Rattle.std.proofs.lemmas.Map.Views.{tells_apart}
 use Rattle.amr_labels.specs.Labels.{LabelSet, label_set_cmp, label_set_cmp_total, label_set_cmp-IsAntisymmetric}
 use Rattle.amr_labels.specs.Map.{Map, empty, get, set, get-empty, get-set}
@@ -19,16 +18,12 @@ module _ {X : Type 0} (answer : LabelSet → X) where
   Gives cached = (labels : LabelSet) (found : X) → get cached labels ≡ Some found → found ≡ answer labels
 
   pub gives_none : (cached : Map label_set_cmp X) → cached ≡ empty → Gives cached
-  gives_none cached none labels found at =
-      absurd (none-some found (sym (ap (λ m. get m labels) none ∙ get-empty label_set_cmp labels) ∙ at))
+  gives_none cached none labels found at = absurd (grind (arith, get-empty {X = X} label_set_cmp labels))
 
   pub gives_more : (cached more : Map label_set_cmp X) (labels : LabelSet) (x : X) → Gives cached → x ≡ answer labels → more ≡ set cached labels (Some x) → Gives more
   gives_more cached more labels x is_cached is shows other found at =
-      go (eq_by_cmp label_set_cmp other labels) refl (sym (get-set label_set_cmp_total cached labels (Some x) other) ∙ ap (λ m. get m other) (sym shows) ∙ at)
-    where
-      go : (b : Bool) → eq_by_cmp label_set_cmp other labels ≡ b → cond b (Some x) (get cached other) ≡ Some found → found ≡ answer other
-      go true tie at = sym (same_Some x found at) ∙ is ∙ ap answer (sym (tells_apart label_set_cmp-IsAntisymmetric other labels tie))
-      go false tie at = is_cached other found at
+      let same : eq_by_cmp label_set_cmp other labels ≡ true → other ≡ labels = tells_apart label_set_cmp-IsAntisymmetric other labels in
+      grind (arith, get-set label_set_cmp_total cached labels (Some x) other, is_cached other found)
 
   -- it is also the answer of another kind that always gives the same
   gives_same : (other : LabelSet → X) (cached : Map label_set_cmp X) → ((labels : LabelSet) → other labels ≡ answer labels) → ((labels : LabelSet) (found : X) → get cached labels ≡ Some found → found ≡ other labels) → Gives cached

@@ -1,10 +1,7 @@
 -- Indexes of receivers and of time intervals by their names.
-use Rattle.std.proofs.Common.{◌≡◌, ℕ, ◌+◌, ◌<◌, Bool, true, false, cond, List, ◌∷◌, length, get_or, drop, Option, Some, sym, ap, ◌∙◌, option_and_then}
-use Rattle.std.specs.Prelude.{slice_get}
+use Rattle.std.proofs.Common.{◌≡◌, ℕ, ◌+◌, ◌<◌, List, length, get_or, drop, Option, Some, option_and_then, slice_get, BTreeMap, find, arith}
 use Rattle.std.specs.BTreeMap as tree
-use Rattle.std.specs.BTreeMap.{BTreeMap}
-use Rattle.std.specs.List.{find}
-use Rattle.std.specs.Ordering.{eq_by_cmp, is_eq}
+use Rattle.std.specs.Ordering.{eq_by_cmp}
 use Rattle.std.proofs.lemmas.List.{drop_more}
 use Rattle.std.proofs.lemmas.Option.{slice_get-get_or}
 use Rattle.amr_labels.specs.Labels.{Text, text_cmp}
@@ -23,10 +20,4 @@ module _ {X : Type 0} (name_of : X → Text) (items : List X) where
   pub indexes_more : (k from : ℕ) (item : X) (name : Text) (indexes more : BTreeMap Text ℕ) → name ≡ name_of item → from ≡ k + 1 → k < length items → item ≡ get_or items k item
       → AreIndexesFrom from indexes → tree.Updates text_cmp indexes more name (Some k) → AreIndexesFrom k more
   indexes_more k from item name indexes more named_so next within at are up other =
-      let rest : drop k items ≡ item ∷ drop from items = drop_more items k item within ∙ (λ i. sym at i ∷ drop (sym next i) items) in
-      ap at_index (up.0 other) ∙ either (is_eq (text_cmp name other))
-      ∙ (λ i. cond (is_eq (text_cmp (named_so i) other)) (Some item) (named (drop from items) other)) ∙ sym (ap (λ rs. named rs other) rest)
-    where
-      either : (b : Bool) → at_index (cond b (Some k) (tree.get text_cmp indexes other)) ≡ cond b (Some item) (named (drop from items) other)
-      either true = slice_get-get_or items k item within ∙ ap (λ r. Some r) (sym at)
-      either false = are other
+      grind (arith, up.0 other, are other, drop_more items k item within, slice_get-get_or items k item within)

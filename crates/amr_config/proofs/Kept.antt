@@ -1,6 +1,5 @@
 -- What a grouping keeps of a label set: the label set of the labels whose names it keeps.
-use Rattle.std.proofs.Common.{◌≡◌, true, false, List, [], ◌∷◌, Option, None, Some, refl, sym, ap}
-use Rattle.std.specs.List.{filter}
+use Rattle.std.proofs.Common.{◌≡◌, true, false, List, [], ◌∷◌, Option, None, Some, refl, sym, ap, filter}
 use Rattle.amr_labels.specs.Labels.{LabelSet}
 use Rattle.amr_labels.specs.Map.{entries, empty, same_entries_map, entries-retain_keys}
 use Rattle.amr_config.specs.declared.stated.route.Grouping.{Grouping}

@@ -1,18 +1,13 @@
 -- The first route with each path, and which routes no other is like.
-use Rattle.std.proofs.Common.{◌≡◌, ℕ, zero, suc, ◌+◌, ◌-◌, ◌<◌, ◌≤◌, Bool, true, false, true≢false, cond, List, [], ◌∷◌, ◌++◌, length, get_or, set, map, Option, Some, None, MatchOption, option_and_then, unwrap_or, refl, sym, ap, subst, ◌∙◌, ⊎_elim, arith}
-use Rattle.std.specs.Prelude.{IfSome}
-use Rattle.std.specs.Bool.{Decides}
+use Rattle.std.proofs.Common.{inl, inr, ◌≡◌, ℕ, zero, suc, ◌+◌, ◌-◌, ◌<◌, ◌≤◌, Bool, true, false, true≢false, cond, List, [], ◌∷◌, ◌++◌, length, get_or, set, map, Option, Some, None, MatchOption, option_and_then, unwrap_or, refl, sym, ap, subst, ◌∙◌, arith, IfSome, Decides, slice_get, Ordering, Less, Equal, Greater}
 use Rattle.std.specs.BTreeMap as tree
 use Rattle.std.specs.Map.{lookup}
 use Rattle.std.specs.Cmp.{IsTotalOrder, nat_cmp_total}
 use Rattle.std.specs.Cmp.Lexicographic.{slice_cmp, lists_total, options_total}
 use Rattle.std.specs.FinMap.{nat_cmp-IsAntisymmetric, slice_cmp-IsAntisymmetric}
-use Rattle.std.specs.List.{slice_get}
 use Rattle.std.specs.Option.{option_map_or, option_cmp}
 use Rattle.std.specs.Ordering.{is_eq, nat_cmp, ordering_then}
-use Rattle.std.specs.declared.cmp.Ordering.{Ordering}
-use Rattle.std.specs.declared.cmp.Ordering.TheVariants.{Less, Equal, Greater}
-use Rattle.std.proofs.lemmas.Bool.{cases_eq, cases_order}
+use Rattle.std.proofs.lemmas.Bool.{cases_eq}
 use Rattle.std.proofs.lemmas.Cmp.{tied_itself, on_total, then_total}
 use Rattle.std.proofs.lemmas.List.{length-map, length-reverse, length-set, length_push, get_or_append_left, get_or_push, get_or-set_same, get_or-set_other, same_from_push}
 use Rattle.std.proofs.lemmas.Map.Views.{tells_apart}
@@ -22,23 +17,14 @@ use Rattle.amr_labels.specs.Matcher.Matchers.{Matcher, matcher_cmp, matcher_cmp_
 use Rattle.amr_config.specs.declared.stated.route.Route.{Route}
 use Rattle.amr_config.specs.Stated.Config.{Config}
 use Rattle.amr_config.specs.Paths.{Path, path_hash, IsFirst, IsFirstLike, AreFirsts, AreOwn, AreFirstIndexes, IsAlone, AreAlone}
-use Rattle.amr_config.specs.Routing.{parent_of, line_within, line_of, path_of, sorted_matchers}
+use Rattle.amr_config.specs.Routing.{parent_of, line_of, path_of, sorted_matchers}
 use Rattle.amr_config.specs.declared.settings.Settings.{Settings}
 use Rattle.amr_config.specs.Settled.{settings_of, settings_of_all, AreParentsFirst}
 use Rattle.amr_config.proofs.Inherited.{get_or-settled}
-use Rattle.amr_config.proofs.Settling.{path_root, path_child}
+use Rattle.amr_config.proofs.Settling.{path_at}
 
-pub decides_too : {P Q : Type 0} (r s : Bool) → s ≡ r → (P → Q) → (Q → P) → Decides r P → Decides s Q
-decides_too r s e there back d = (λ is. there (d.0 (sym e ∙ is)), λ q. e ∙ d.1 (back q))
-
-decides_yes : {P : Type 0} (r : Bool) → r ≡ true → P → Decides r P
-decides_yes r e p = (λ is. p, λ p'. e)
-
-pub decides_no : {P : Type 0} (r : Bool) → r ≡ false → (P → ⊥) → Decides r P
+decides_no : {P : Type 0} (r : Bool) → r ≡ false → (P → ⊥) → Decides r P
 decides_no r e none = (λ is. let h : ◌≡◌ {A = Bool} false true = sym e ∙ is in absurd (cc), λ p. absurd (none p))
-
-below : (n limit : ℕ) → n < limit + 1 → (n ≡ limit → ⊥) → n < limit
-below n limit within ne = omega (arith, within, ne)
 
 -- ---- keys of paths
 
@@ -81,15 +67,13 @@ value_at entries key = lookup (tree.is_at (path_key_cmp key)) entries
 
 -- ---- the first route with each path
 
-line_not_empty : (config : Config) (most n : ℕ) → 0 < length (line_within most config n)
-line_not_empty config zero n = omega arith
-line_not_empty config (suc most) n = omega arith
-
 path_not_empty : (config : Config) (n : ℕ) → path_of config n ≡ [] → ⊥
 unfolding path_of
-path_not_empty config n e =
+path_not_empty config zero e = absurd (cc)
+path_not_empty config (suc n) e =
+    let line = line_of config (suc n) in
     let matchers : ℕ → List Matcher = λ m. option_map_or (λ (route : Route). sorted_matchers route.matchers) (slice_get config.routes m) [] in
-    omega (arith, line_not_empty config n n, sym (length-map (line_of config n) matchers) ∙ sym (length-reverse (map matchers (line_of config n))) ∙ ap length e)
+    omega (arith, ap length e, length-reverse (map matchers line), length-map line matchers)
 
 pub path_settled : (config : Config) (settings : List Settings) (n : ℕ) (its : Settings) → settings ≡ settings_of_all config → its ≡ get_or settings n its → n < length config.routes → its.path ≡ path_of config n
 unfolding settings_of
@@ -101,10 +85,7 @@ abbrev pub own_of : Path → List Matcher
 own_of path = unwrap_or (slice_get path (length path - 1)) []
 
 own_of_push : (front : Path) (own : List Matcher) → own_of (front ++ own ∷ []) ≡ own
-own_of_push front own =
-    let long : length (front ++ own ∷ []) ≡ length front + 1 = length_push front own in
-    ap (λ o. unwrap_or o []) (slice_get-get_or (front ++ own ∷ []) (length (front ++ own ∷ []) - 1) own (omega (arith, long))
-    ∙ ap (λ own. Some own) (get_or_push front own own (length (front ++ own ∷ []) - 1) (omega (arith, long))))
+own_of_push front own = grind (arith, length_push front own, slice_get-get_or (front ++ own ∷ []) (length front) own, get_or_push front own own (length front))
 
 module _ (config : Config) where
   abbrev path_of_key : PathKey → Path
@@ -140,8 +121,7 @@ module _ (config : Config) where
   known_same limit a b same are = subst (AreKnown limit) same are
 
   two_firsts : (a b : ℕ) → IsFirst config a → IsFirst config b → path_of config a ≡ path_of config b → a ≡ b
-  two_firsts a b first_a first_b same =
-      ⊎_elim (λ (e : a ≡ b). e) (λ apart. ⊎_elim (λ (less : a < b). absurd (first_b a less same)) (λ (less : b < a). absurd (first_a b less (sym same))) apart) (cases_order a b)
+  two_firsts a b first_a first_b same = grind (arith, first_a b, first_b a)
 
   same_above : (a b : Option ℕ) → IfSome a (IsFirst config) → IfSome b (IsFirst config) → option_map_or (path_of config) a [] ≡ option_map_or (path_of config) b [] → a ≡ b
   same_above None None sound_a sound_b same = refl
@@ -159,12 +139,11 @@ module _ (config : Config) where
 
   pub firsts_more : (limit : ℕ) (firsts : List ℕ) (first : ℕ) → AreFirsts config limit firsts → IsFirstLike config limit first → AreFirsts config (limit + 1) (firsts ++ first ∷ [])
   firsts_more limit firsts first are is = record {
-    each = λ n within. ⊎_elim
-        (λ (e : n ≡ limit). subst (λ (k : ℕ). IsFirstLike config n k) (sym (get_or_push firsts first 0 n (are.all ∙ sym e))) (subst (λ (k : ℕ). IsFirstLike config k first) (sym e) is))
-        (λ (ne : n ≡ limit → ⊥). let less = below n limit within ne in
-        subst (λ (k : ℕ). IsFirstLike config n k) (sym (get_or_append_left firsts (first ∷ []) 0 n (omega (arith, less, are.all)))) (are.each n less))
-        (cases_eq n limit);
-    all = length_push firsts first ∙ ap (λ k. k + 1) are.all;
+    each = λ n within. elim (cases_eq n limit) [
+      | inl e ↦ rw (get_or_push firsts first 0 n (are.all ∙ sym e), e) is
+      | inr ne ↦ rw (get_or_append_left firsts (first ∷ []) 0 n (omega (arith, within, ne, are.all))) (are.each n (omega (arith, within, ne)))
+    ];
+    all = grind (arith, length_push firsts first, are.all);
   }
 
   module _ (parents : AreParentsFirst config) (limit : ℕ) (route : Route) (here : slice_get config.routes limit ≡ Some route) (firsts : List ℕ) (are : AreFirsts config limit firsts) where
@@ -175,14 +154,14 @@ module _ (config : Config) where
     is_key_at key first hash_value path = record { sound = record { first = first; hash_value = hash_value ∙ ap path_hash (sym path) }; path = path }
 
     is_key_under : (parent : Option ℕ) → parent_of config limit ≡ parent → IsKeyOf limit (key_under parent)
-    is_key_under None e = is_key_at (key_under None) tt refl (sym (path_root config parents limit route here e))
+    is_key_under None e = is_key_at (key_under None) tt refl (sym (path_at config parents limit route here None e))
     is_key_under (Some parent) e =
         let less = parents limit parent e in
         let its = are.each parent less in
         let found = slice_get-get_or firsts parent 0 (omega (arith, less, are.all)) in
         subst (λ (o : Option ℕ). IsKeyOf limit (path_hash (path_of config limit), (o, sorted_matchers route.matchers))) (sym found)
         (is_key_at (path_hash (path_of config limit), (Some (get_or firsts parent 0), sorted_matchers route.matchers)) its.is_first refl
-        (ap (λ (p : Path). p ++ sorted_matchers route.matchers ∷ []) its.same ∙ sym (path_child config parents limit route here parent e)))
+        (ap (λ (p : Path). p ++ sorted_matchers route.matchers ∷ []) its.same ∙ sym (path_at config parents limit route here (Some parent) e)))
 
     pub is_key : (path : Path) (key : PathKey) → path ≡ path_of config limit → key ≡ (path_hash path, (option_and_then (slice_get firsts) route.parent, own_of path)) → IsKeyOf limit key
     is_key path key same e =
@@ -192,32 +171,30 @@ module _ (config : Config) where
         subst (IsKeyOf limit) (sym (e ∙ (λ i. (path_hash (same i), (option_and_then (slice_get firsts) route.parent, own i))))) under
 
   module _ (limit : ℕ) (key : PathKey) (is : IsKeyOf limit key) (known : List (PathKey × ℕ)) (are : AreKnown limit known) where
-    first_by : (found : Option ℕ) (first : ℕ) → IsAnswered limit key found → first ≡ unwrap_or found limit → IsFirstLike config limit first
-    first_by None first none e = subst (IsFirstLike config limit) (sym e) (record { within = omega arith; same = refl; is_first = λ n less same. none n less (same ∙ sym is.path) })
-    first_by (Some w) first has e = subst (IsFirstLike config limit) (sym e) (record { within = omega (arith, has.within); same = has.same ∙ is.path; is_first = has.is_first })
+    first_by : (found : Option ℕ) → IsAnswered limit key found → IsFirstLike config limit (unwrap_or found limit)
+    first_by None none = record { within = omega arith; same = refl; is_first = λ n less same. none n less (same ∙ sym is.path) }
+    first_by (Some w) has = record { within = omega (arith, has.within); same = has.same ∙ is.path; is_first = has.is_first }
 
     -- the first route with the path, which is the one that is known, or this one
     pub first_like : (first : ℕ) → first ≡ unwrap_or (value_at known key) limit → IsFirstLike config limit first
-    first_like first e = first_by (value_at known key) first (are key is.sound) e
+    first_like first e = rw e (first_by (value_at known key) (are key is.sound))
 
     answered_more : (other : PathKey) (found : Option ℕ) → IsSound other → (key ≡ other → ⊥) → IsAnswered limit other found → IsAnswered (limit + 1) other found
-    answered_more other None sound apart none = λ n within same.
-        ⊎_elim (λ (e : n ≡ limit). apart (same_key key other is.sound sound (is.path ∙ ap (path_of config) (sym e) ∙ same))) (λ (ne : n ≡ limit → ⊥). none n (below n limit within ne) same) (cases_eq n limit)
+    answered_more other None sound apart none = λ n within same. elim (cases_eq n limit) [
+      | inl e ↦ apart (same_key key other is.sound sound (is.path ∙ ap (path_of config) (sym e) ∙ same))
+      | inr ne ↦ none n (omega (arith, within, ne)) same
+    ]
     answered_more other (Some first) sound apart found = record { within = omega (arith, found.within); same = found.same; is_first = found.is_first }
 
     module _ (first : ℕ) (like : IsFirstLike config limit first) (more : List (PathKey × ℕ)) (up : (q : PathKey) → value_at more q ≡ cond (is_eq (path_key_cmp key q)) (Some first) (value_at known q)) where
-      others : (other : PathKey) → IsSound other → value_at more other ≡ value_at known other → (key ≡ other → ⊥) → IsAnswered (limit + 1) other (value_at more other)
-      others other sound same apart =
-          subst (IsAnswered (limit + 1) other) (sym same) (answered_more other (value_at known other) sound apart (are other sound))
-
       pub known_more : AreKnown (limit + 1) more
       known_more other sound = go (is_eq (path_key_cmp key other)) refl (up other)
         where
           go : (b : Bool) → is_eq (path_key_cmp key other) ≡ b → value_at more other ≡ cond b (Some first) (value_at known other) → IsAnswered (limit + 1) other (value_at more other)
-          go true tie now = subst (IsAnswered (limit + 1) other) (sym now)
-              (record { within = omega (arith, like.within); same = like.same ∙ sym is.path ∙ ap path_of_key (tells_apart keys_alike key other tie); is_first = like.is_first })
-          go false tie now =
-              others other sound now (λ same. true≢false (sym (ap is_eq (ap (path_key_cmp key) (sym same) ∙ tied_itself path_key_cmp_total key)) ∙ tie))
+          go true tie now =
+              rw now (record { within = omega (arith, like.within); same = like.same ∙ sym is.path ∙ ap path_of_key (tells_apart keys_alike key other tie); is_first = like.is_first })
+          go false tie now = rw now (answered_more other (value_at known other) sound
+              (λ same. true≢false (sym (ap is_eq (ap (path_key_cmp key) (sym same) ∙ tied_itself path_key_cmp_total key)) ∙ tie)) (are other sound))
 
   -- ---- the first routes tell which paths are of one route alone
 
@@ -243,40 +220,44 @@ module _ (config : Config) where
     are_own own e alone = record {
       each = λ n within.
           let there : n < limit = omega (arith, within, e) in
-          decides_too (get_or own n false) (get_or own n false) refl
-          (λ (only : IsAlone (λ index. get_or firsts index 0) (length firsts) n) other less same. let less_too : other < limit = omega (arith, less, e) in only other (omega (arith, less_too, are.all)) (same_first n other there less_too same))
-          (λ (only : IsAlone (path_of config) (length config.routes) n) other less same. let less_too : other < limit = omega (arith, less, are.all) in only other (omega (arith, less_too, e)) (same_path n other there less_too same))
-          (alone.each n (omega (arith, there, are.all)));
+          let known = alone.each n (omega (arith, there, are.all)) in
+          (λ is other less same. known.0 is other (omega (arith, less, e, are.all)) (same_first n other there (omega (arith, less, e)) same),
+           λ only. known.1 (λ other less same. only other (omega (arith, less, are.all, e)) (same_path n other there (omega (arith, less, are.all)) same)));
       all = alone.all ∙ are.all ∙ e;
     }
 
 -- ---- which indexes have a number alone
 
 module _ (numbers : List ℕ) where
-  alone_less : (limit n : ℕ) → IsAlone (λ index. get_or numbers index 0) (limit + 1) n → IsAlone (λ index. get_or numbers index 0) limit n
-  alone_less limit n only other within same = only other (omega (arith, within)) same
+  abbrev IsAloneBelow : ℕ → ℕ → Type 0
+  IsAloneBelow limit n = IsAlone (λ index. get_or numbers index 0) limit n
 
-  alone_more : (limit n : ℕ) → (get_or numbers limit 0 ≡ get_or numbers n 0 → limit ≡ n) → IsAlone (λ index. get_or numbers index 0) limit n → IsAlone (λ index. get_or numbers index 0) (limit + 1) n
-  alone_more limit n next only other within same =
-      ⊎_elim (λ (e : other ≡ limit). e ∙ next (ap (λ k. get_or numbers k 0) (sym e) ∙ same)) (λ (ne : other ≡ limit → ⊥). only other (below other limit within ne) same) (cases_eq other limit)
+  -- one more index leaves it open whether an earlier one is alone, unless the two have the same number
+  alone_more : (limit n : ℕ) → (get_or numbers limit 0 ≡ get_or numbers n 0 → limit ≡ n) → IsAloneBelow limit n → IsAloneBelow (limit + 1) n
+  alone_more limit n next only other within same = elim (cases_eq other limit) [
+    | inl e ↦ e ∙ next (ap (λ k. get_or numbers k 0) (sym e) ∙ same)
+    | inr ne ↦ only other (omega (arith, within, ne)) same
+  ]
+
+  still_alone : (limit n : ℕ) (r : Bool) → (IsAloneBelow limit n → get_or numbers limit 0 ≡ get_or numbers n 0 → limit ≡ n) → Decides r (IsAloneBelow limit n) → Decides r (IsAloneBelow (limit + 1) n)
+  still_alone limit n r next d = (λ is. alone_more limit n (next (d.0 is)) (d.0 is), λ only. d.1 (λ other within same. only other (omega (arith, within)) same))
 
   module _ (are : AreFirstIndexes numbers) (limit : ℕ) (there : limit < length numbers) (alone : List Bool) (known : AreAlone numbers limit alone) where
     -- ---- a number that has not been seen
 
     module _ (late : limit ≤ get_or numbers limit 0) where
       no_other : (n : ℕ) → n < limit → get_or numbers n 0 ≡ get_or numbers limit 0 → ⊥
-      no_other n less same = let h : get_or numbers n 0 ≤ n = (are n (omega (arith, less, there))).0 in omega (arith, less, same, late, h)
+      no_other n less same = omega (arith, less, same, late, (are n (omega (arith, less, there))).0)
 
       pub alone_unseen : AreAlone numbers (limit + 1) (alone ++ true ∷ [])
       alone_unseen = record {
-        each = λ n within. ⊎_elim
-            (λ (e : n ≡ limit). decides_yes (get_or (alone ++ true ∷ []) n false) (get_or_push alone true false n (known.all ∙ sym e))
-            (alone_more limit n (λ same. sym e) (λ other less same. absurd (no_other other less (same ∙ ap (λ k. get_or numbers k 0) e)))))
-            (λ (ne : n ≡ limit → ⊥). let less = below n limit within ne in
-            decides_too (get_or alone n false) (get_or (alone ++ true ∷ []) n false) (get_or_append_left alone (true ∷ []) false n (omega (arith, less, known.all)))
-            (alone_more limit n (λ same. absurd (no_other n less (sym same)))) (alone_less limit n) (known.each n less))
-            (cases_eq n limit);
-        all = length_push alone true ∙ ap (λ k. k + 1) known.all;
+        each = λ n within. elim (cases_eq n limit) [
+          | inl e ↦ (λ is. alone_more limit n (λ same. sym e) (λ other less same. absurd (no_other other less (same ∙ ap (λ k. get_or numbers k 0) e))), λ only. get_or_push alone true false n (known.all ∙ sym e))
+          | inr ne ↦
+              let less : n < limit = omega (arith, within, ne) in
+              rw (get_or_append_left alone (true ∷ []) false n (omega (arith, less, known.all))) (still_alone limit n _ (λ only same. absurd (no_other n less (sym same))) (known.each n less))
+        ];
+        all = grind (arith, length_push alone true, known.all);
       }
 
     -- ---- a number that has been seen
@@ -288,27 +269,20 @@ module _ (numbers : List ℕ) where
       abbrev left : List Bool
       left = set alone first false ++ false ∷ []
 
-      not_left : (n : ℕ) → n < limit → (n ≡ first → ⊥) → get_or left n false ≡ get_or alone n false
-      not_left n less ne =
-          get_or_append_left (set alone first false) (false ∷ []) false n (omega (arith, less, known.all, length-set alone first false)) ∙ get_or-set_other alone first n false false ne
-
-      left_first : (n : ℕ) → n ≡ first → get_or left n false ≡ false
-      left_first n e =
-          ap (λ k. get_or left k false) e ∙ get_or_append_left (set alone first false) (false ∷ []) false first (omega (arith, before, known.all, length-set alone first false))
-          ∙ get_or-set_same alone first false false (omega (arith, before, known.all))
-
       pub alone_seen : AreAlone numbers (limit + 1) left
       alone_seen = record {
-        each = λ n within. ⊎_elim
-            (λ (e : n ≡ limit). decides_no (get_or left n false) (get_or_push (set alone first false) false false n (length-set alone first false ∙ known.all ∙ sym e))
-            (λ only. let h : first ≡ n = only first (omega (arith, before)) (first_has_it ∙ ap (λ k. get_or numbers k 0) (sym e)) in omega (arith, h, e, before)))
-            (λ (ne : n ≡ limit → ⊥). let less = below n limit within ne in
-            ⊎_elim
-            (λ (e : n ≡ first). decides_no (get_or left n false) (left_first n e)
-            (λ only. let h : limit ≡ n = only limit (omega arith) (sym first_has_it ∙ ap (λ k. get_or numbers k 0) (sym e)) in omega (arith, h, less)))
-            (λ (apart : n ≡ first → ⊥). decides_too (get_or alone n false) (get_or left n false) (not_left n less apart)
-            (λ (only : IsAlone (λ index. get_or numbers index 0) limit n). alone_more limit n (λ same. absurd (apart (sym (only first before (first_has_it ∙ same))))) only) (alone_less limit n) (known.each n less))
-            (cases_eq n first))
-            (cases_eq n limit);
-        all = length_push (set alone first false) false ∙ ap (λ k. k + 1) (length-set alone first false ∙ known.all);
+        each = λ n within. elim (cases_eq n limit) [
+          | inl e ↦ decides_no (get_or left n false) (get_or_push (set alone first false) false false n (length-set alone first false ∙ known.all ∙ sym e))
+              (λ only. let h : first ≡ n = only first (omega (arith, before)) (first_has_it ∙ ap (λ k. get_or numbers k 0) (sym e)) in omega (arith, h, e, before))
+          | inr ne ↦
+              let less : n < limit = omega (arith, within, ne) in
+              let early : get_or left n false ≡ get_or (set alone first false) n false = get_or_append_left (set alone first false) (false ∷ []) false n (omega (arith, less, known.all, length-set alone first false)) in
+              elim (cases_eq n first) [
+                | inl e ↦ decides_no (get_or left n false) (grind (arith, early, get_or-set_same alone first false false, known.all))
+                    (λ only. let h : limit ≡ n = only limit (omega arith) (sym first_has_it ∙ ap (λ k. get_or numbers k 0) (sym e)) in omega (arith, h, less))
+                | inr apart ↦ rw (early, get_or-set_other alone first n false false apart)
+                    (still_alone limit n _ (λ only same. absurd (apart (sym (only first before (first_has_it ∙ same))))) (known.each n less))
+              ]
+        ];
+        all = grind (arith, length_push (set alone first false) false, length-set alone first false, known.all);
       }

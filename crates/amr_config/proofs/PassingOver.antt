@@ -1,28 +1,23 @@
 -- The walk through the routes may pass over those below a route that isn't open.
-use Rattle.std.proofs.Common.{◌≡◌, ℕ, zero, suc, ◌+◌, ◌-◌, ◌<◌, ◌≤◌, Bool, true, false, not, List, [], ◌∷◌, ◌++◌, length, get_or, take, replicate, Option, Some, None, refl, sym, ap, subst, ◌∙◌, arith, inl, inr, true≢false}
-use Rattle.std.specs.Prelude.{◌&&◌, IsSomeAnd, OnOk, Result, Ok, Err, is_ok}
+use Rattle.std.proofs.Common.{◌≡◌, ℕ, zero, suc, ◌+◌, ◌-◌, ◌<◌, ◌≤◌, Bool, true, false, List, [], ◌∷◌, ◌++◌, length, get_or, take, replicate, Option, Some, None, refl, sym, ◌∙◌, arith, IsSomeAnd, OnOk, Result, Ok, Err, is_ok}
 use Rattle.std.specs.Option.{option_map_or}
-use Rattle.std.specs.List.{list_any, range_with_len, slice_get}
+use Rattle.std.specs.List.{slice_get}
 use Rattle.std.proofs.Math.Bool.{and-false}
-use Rattle.std.proofs.lemmas.Bool.{cases_eq}
+use Rattle.std.proofs.lemmas.Grind.{common_steps}
 use Rattle.std.proofs.lemmas.Option.{slice_get-get_or}
 use Rattle.std.proofs.lemmas.List.FromFn.{get_or-map-range_with_len}
-use Rattle.std.proofs.lemmas.List.{append-nil, append_assoc, replicate_more, take_all}
+use Rattle.std.proofs.lemmas.List.{append-nil, append_assoc, replicate_more}
 use Rattle.amr_labels.specs.Labels.{LabelSet}
 use Rattle.amr_config.specs.declared.routing.Standing.{Standing}
 use Rattle.amr_config.specs.Stated.Config.{Config}
-use Rattle.amr_config.specs.Routing.{parent_of, matches_route, is_cut_off}
+use Rattle.amr_config.specs.Routing.{parent_of, matches_route}
 use Rattle.amr_config.specs.Settled.{AreParentsFirst}
-use Rattle.amr_config.specs.Standings.{IsMoreSeen, is_open, closes, standing_of, standings_at, is_chosen_standing, chosen_numbers}
+use Rattle.amr_config.specs.Standings.{IsMoreSeen, is_open, standing_of, standings_at, is_chosen_standing, chosen_numbers}
 use Rattle.amr_config.specs.Subtrees.{IsSubtreeEnd}
 use Rattle.amr_config.proofs.Chosen.{standing, open_root, open_child, cut_child, root_step, shut_step, unmatched_step, length-standings_at, chosen_more_at}
 
 abbrev pub shut : Standing
 shut = standing false false false
-
-standing_open : (config : Config) (labels : LabelSet) (n m : ℕ) → (standing_of config labels n m).is_open ≡ is_open config labels m
-unfolding standing_of
-standing_open config labels n m = refl
 
 pub without_error : {X E : Type 0} (r : Result X E) {P : Type 0} → (is_ok r ≡ true → P) → OnOk r P
 without_error (Ok x) h = h refl
@@ -30,106 +25,64 @@ without_error (Err e) h = tt
 
 -- one more route has been seen
 pub one_more : (config : Config) (labels : LabelSet) (n now : ℕ) (standings : List Standing) → n < length config.routes → now ≡ n + 1 → standings ≡ standings_at config labels (n + 1) → IsMoreSeen config labels n now standings
-one_more config labels n now standings lt len seen =
-    record { more = omega (arith, len); within = omega (arith, len, lt); seen = seen ∙ ap (standings_at config labels) (sym len) }
+one_more config labels n now standings lt len seen = record { more = omega arith; within = omega arith; seen = grind arith }
 
 module _ (config : Config) (labels : LabelSet) (first : AreParentsFirst config) where
-  standing_closed : (n parent : ℕ) → n ≤ length config.routes → parent_of config n ≡ Some parent → is_open config labels parent ≡ true → is_cut_off config labels n ≡ true → (standing_of config labels n parent).is_closed ≡ true
-  unfolding standing_of
-  standing_closed n parent le e o cut =
-      ap (λ b. b && list_any (closes config labels parent) (range_with_len 0 n)) o ∙ sym (cut_child config labels first n parent le e) ∙ cut
-
   -- a route that isn't open changes no standing, whatever keeps it from being open
-  child_step : (n parent : ℕ) → n ≤ length config.routes → parent_of config n ≡ Some parent → is_open config labels n ≡ false → (mt cut above : Bool) → matches_route config labels n ≡ mt → is_cut_off config labels n ≡ cut → is_open config labels parent ≡ above → standings_at config labels n ++ shut ∷ [] ≡ standings_at config labels (n + 1)
-  child_step n parent le e o false cut above m c p = unmatched_step config labels first n parent e m
-  child_step n parent le e o true cut false m c p =
-      shut_step config labels first n parent le e (standing_of config labels n parent) refl (inl (standing_open config labels n parent ∙ p))
-  child_step n parent le e o true true true m c p =
-      shut_step config labels first n parent le e (standing_of config labels n parent) refl (inr (standing_closed n parent le e p c))
-  child_step n parent le e o true false true m c p =
-      absurd (true≢false (sym (open_child config labels first n parent e
-      ∙ ap (λ b. (b && not (is_cut_off config labels n)) && is_open config labels parent) m
-      ∙ ap (λ b. not b && is_open config labels parent) c ∙ p) ∙ o))
+  child_step : (n parent : ℕ) → n ≤ length config.routes → parent_of config n ≡ Some parent → is_open config labels n ≡ false → (mt : Bool) → matches_route config labels n ≡ mt → standings_at config labels n ++ shut ∷ [] ≡ standings_at config labels (n + 1)
+  unfolding standing_of
+  child_step n parent le e o false m = unmatched_step config labels first n parent e m
+  child_step n parent le e o true m =
+      shut_step config labels first n parent le e (standing_of config labels n parent) refl (grind (arith, cut_child config labels first n parent, open_child config labels first n parent))
 
   step_under : (n : ℕ) → n ≤ length config.routes → is_open config labels n ≡ false → (above : Option ℕ) → parent_of config n ≡ above → standings_at config labels n ++ shut ∷ [] ≡ standings_at config labels (n + 1)
   step_under n le o None e = root_step config labels first n false e (sym o ∙ open_root config labels first n e)
-  step_under n le o (Some parent) e = child_step n parent le e o _ _ _ refl refl refl
+  step_under n le o (Some parent) e = child_step n parent le e o _ refl
 
   -- a route whose parent is at or below one that isn't open, isn't open
   under_shut : (n m : ℕ) → ((q : ℕ) → n ≤ q → q < m → is_open config labels q ≡ false) → (above : Option ℕ) → parent_of config m ≡ above → IsSomeAnd above (λ parent. n ≤ parent) → is_open config labels m ≡ false
   under_shut n m before None e from = absurd from
-  under_shut n m before (Some parent) e from =
-      open_child config labels first m parent e
-      ∙ ap (λ b. (matches_route config labels m && not (is_cut_off config labels m)) && b) (before parent from (first m parent e))
-      ∙ and-false (matches_route config labels m && not (is_cut_off config labels m))
+  under_shut n m before (Some parent) e from = grind (arith, and-false, open_child config labels first m parent e, before parent from (first m parent e))
 
   -- none below a route that isn't open is open
   pub below_shut : (most n stop : ℕ) → IsSubtreeEnd config.routes n stop → is_open config labels n ≡ false → (m : ℕ) → n ≤ m → m < stop → m < most → is_open config labels m ≡ false
   below_shut zero n stop ends o m le lt h = absurd (omega (arith, h))
-  below_shut (suc most) n stop ends o m le lt h = elim (cases_eq n m) [
-    | inl same ↦ subst (λ q. is_open config labels q ≡ false) same o
-    | inr other ↦ under_shut n m (λ q from to. below_shut most n stop ends o q from (omega (arith, to, lt)) (omega (arith, to, h))) (parent_of config m) refl (ends.inside m (omega (arith, le, other)) lt)
-  ]
+  below_shut (suc most) n stop ends o m le lt h =
+      let here = under_shut n m (λ q from to. below_shut most n stop ends o q from (omega (arith, to, lt)) (omega (arith, to, h))) (parent_of config m) refl in
+      grind (arith, ends.inside m)
 
   fill : (k n : ℕ) → n + k ≤ length config.routes → ((m : ℕ) → n ≤ m → m < n + k → is_open config labels m ≡ false) → standings_at config labels n ++ replicate k shut ≡ standings_at config labels (n + k)
-  fill zero n le none =
-      let same : n ≡ n + zero = omega arith in
-      append-nil (standings_at config labels n) ∙ ap (standings_at config labels) same
+  fill zero n le none = grind (arith, append-nil)
   fill (suc k) n le none =
-      let one_more : suc k ≡ k + 1 = omega arith in
-      let after : n + k + 1 ≡ n + suc k = omega arith in
-      let more : standings_at config labels (n + k) ++ shut ∷ [] ≡ standings_at config labels (n + k + 1) =
-      step_under (n + k) (omega (arith, le)) (none (n + k) (omega arith) (omega arith)) (parent_of config (n + k)) refl in
-      ap (λ ms. standings_at config labels n ++ ms) (ap (λ j. replicate j shut) one_more ∙ sym (replicate_more k shut))
-      ∙ sym (append_assoc (standings_at config labels n) (replicate k shut) (shut ∷ []))
-      ∙ ap (λ ms. ms ++ shut ∷ []) (fill k n (omega (arith, le)) (λ m from to. none m from (omega (arith, to))))
-      ∙ more ∙ ap (standings_at config labels) after
+      let rest = fill k n (omega (arith, le)) (λ m from to. none m from (omega (arith, to))) in
+      let more = step_under (n + k) (omega (arith, le)) (none (n + k) (omega arith) (omega arith)) (parent_of config (n + k)) refl in
+      grind (arith, append_assoc, replicate_more k shut)
 
   -- a route that doesn't match isn't open
   pub unmatched_shut : (n parent : ℕ) → parent_of config n ≡ Some parent → matches_route config labels n ≡ false → is_open config labels n ≡ false
-  unmatched_shut n parent e m =
-      open_child config labels first n parent e ∙ ap (λ b. (b && not (is_cut_off config labels n)) && is_open config labels parent) m
+  unmatched_shut n parent e m = grind (arith, open_child config labels first n parent)
 
   -- what is known when a route that isn't open was passed over with those below it
   pub passed_over : (n stop : ℕ) (former latter : List Standing) → IsSubtreeEnd config.routes n stop → former ≡ standings_at config labels n → is_open config labels n ≡ false → latter ≡ take stop former ++ replicate (stop - n) shut → IsMoreSeen config labels n stop latter
   passed_over n stop former latter ends known o made =
-      let short : length former ≤ stop = omega (arith, ends.after, ap length known, length-standings_at config labels n) in
-      let all : n + (stop - n) ≡ stop = omega (arith, ends.after) in
-      record {
-        more = ends.after;
-        within = ends.within;
-        seen = made ∙ ap (λ ms. ms ++ replicate (stop - n) shut) (take_all stop former short ∙ known)
-            ∙ fill (stop - n) n (omega (arith, ends.after, ends.within)) (λ m from to. below_shut stop n stop ends o m from (omega (arith, to, ends.after)) (omega (arith, to, ends.after)))
-            ∙ ap (standings_at config labels) all;
-      }
+      let filled = fill (stop - n) n (omega (arith, ends.after, ends.within)) (λ m from to. below_shut stop n stop ends o m from (omega (arith, to, ends.after)) (omega (arith, to, ends.after))) in
+      record { more = ends.after; within = ends.within; seen = grind (arith, common_steps, length-standings_at config labels n) }
 
 -- no more are chosen than below n if none from there on is open
 none_chosen : (k n : ℕ) (standings : List Standing) → ((m : ℕ) → n ≤ m → m < n + k → option_map_or is_chosen_standing (slice_get standings m) false ≡ false) → chosen_numbers standings (n + k) ≡ chosen_numbers standings n
-none_chosen zero n standings none =
-    let same : n + zero ≡ n = omega arith in
-    ap (chosen_numbers standings) same
+none_chosen zero n standings none = grind arith
 none_chosen (suc k) n standings none =
-    let last : n + suc k ≡ n + k + 1 = omega arith in
-    ap (chosen_numbers standings) last ∙ chosen_more_at standings (n + k) false (none (n + k) (omega arith) (omega arith))
-    ∙ append-nil (chosen_numbers standings (n + k)) ∙ none_chosen k n standings (λ m from to. none m from (omega (arith, to)))
+    let rest = none_chosen k n standings (λ m from to. none m from (omega (arith, to))) in
+    grind (arith, chosen_more_at standings (n + k) false, none (n + k), append-nil)
 
 module _ (config : Config) (labels : LabelSet) (standings : List Standing) (known : standings ≡ standings_at config labels (length standings)) where
   -- the standing of a route says whether it is open
   pub open_as_known : (n : ℕ) (d : Standing) → n < length standings → (get_or standings n d).is_open ≡ is_open config labels n
-  unfolding standings_at
-  open_as_known n d h =
-      ap (λ (m : Standing). m.is_open) (ap (λ ms. get_or ms n d) known ∙ get_or-map-range_with_len (standing_of config labels (length standings)) 0 (length standings) n n d h (omega arith))
-      ∙ standing_open config labels (length standings) n
-
-  unchosen : (m : ℕ) → m < length standings → is_open config labels m ≡ false → option_map_or is_chosen_standing (slice_get standings m) false ≡ false
-  unchosen m h o =
-      let d : Standing = shut in
-      ap (λ s. option_map_or is_chosen_standing s false) (slice_get-get_or standings m d h)
-      ∙ ap (λ b. b && not (get_or standings m d).is_taken) (open_as_known m d h ∙ o)
+  unfolding standings_at standing_of
+  open_as_known n d h = grind (arith, get_or-map-range_with_len (standing_of config labels (length standings)) 0 (length standings) n n d)
 
   -- those that are chosen below the next route to see are those below this one, and this one if it is
   pub chosen_to_next : (n next : ℕ) → n < next → next ≤ length standings → ((m : ℕ) → n < m → m < next → is_open config labels m ≡ false) → chosen_numbers standings next ≡ chosen_numbers standings (n + 1)
   chosen_to_next n next lt le none =
-      let all : next ≡ n + 1 + (next - (n + 1)) = omega (arith, lt) in
-      ap (chosen_numbers standings) all
-      ∙ none_chosen (next - (n + 1)) (n + 1) standings (λ m from to. unchosen m (omega (arith, to, lt, le)) (none m (omega (arith, from)) (omega (arith, to, lt))))
+      let all = none_chosen (next - (n + 1)) (n + 1) standings (λ m from to. grind (arith, slice_get-get_or standings m shut, open_as_known m shut, none m)) in
+      grind arith

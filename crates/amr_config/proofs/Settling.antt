@@ -1,93 +1,43 @@
 -- The settings of a route from its own and its parent's are those that it has.
-use Rattle.std.proofs.Common.{◌≡◌, ℕ, ◌+◌, ◌*◌, ◌<◌, false, List, [], ◌∷◌, ◌++◌, length, get_or, map, reverse, Option, Some, None, refl, sym, ap, ◌∙◌, arith, unwrap_or, option_and_then}
+use Rattle.std.proofs.Common.{◌≡◌, ℕ, ◌+◌, ◌<◌, List, [], ◌∷◌, ◌++◌, length, get_or, map, Option, Some, None, refl, sym, ap, ◌∙◌, arith, option_and_then, option_map}
 use Rattle.std.specs.Option.{option_map_or, option_or}
 use Rattle.std.specs.List.{slice_get, range_with_len}
 use Rattle.std.proofs.lemmas.Option.{slice_get-get_or}
 use Rattle.std.proofs.lemmas.List.{reverse-append}
 use Rattle.std.proofs.lemmas.List.FromFn.{length-map-range_with_len, get_or-map-range_with_len, map-range_with_len_more}
-use Rattle.amr_time.specs.Time.{second, minute, hour}
-use Rattle.amr_labels.specs.Labels.{Text}
 use Rattle.amr_config.specs.declared.stated.route.Route.{Route}
 use Rattle.amr_config.specs.declared.settings.Settings.{Settings}
 use Rattle.amr_config.specs.Stated.Config.{Config}
-use Rattle.amr_config.specs.declared.defaults.TheConstants.{GROUP_WAIT_SECONDS, GROUP_INTERVAL_MINUTES, REPEAT_INTERVAL_HOURS}
-use Rattle.amr_config.specs.Routing.{parent_of, line_of, first_stated, inherited_value, receiver_name_of, path_of, sorted_matchers}
+use Rattle.amr_config.specs.Routing.{parent_of, line_of, inherited_value, receiver_name_of, path_of, sorted_matchers}
 use Rattle.amr_config.specs.Receivers.{receiver_parent}
 use Rattle.amr_config.specs.Settled.{settings_of, settings_of_all, settled_to, settled_under, AreParentsFirst}
 use Rattle.amr_config.proofs.Lines.{line_of-root, line_of-child}
 
-stated_or : {X : Type 0} (a b : Option X) (d : X) → unwrap_or (option_or a b) d ≡ unwrap_or a (unwrap_or b d)
-stated_or None b d = refl
-stated_or (Some x) b d = refl
-
 module _ (config : Config) (first : AreParentsFirst config) (n : ℕ) (route : Route) (here : slice_get config.routes n ≡ Some route) where
-  inherited_root : {X : Type 0} (field : Route → Option X) → parent_of config n ≡ None → inherited_value field config n ≡ option_or (field route) None
+  inherited : {X : Type 0} (field : Route → Option X) (above : Option ℕ) → parent_of config n ≡ above → inherited_value field config n ≡ option_or (field route) (option_map_or (inherited_value field config) above None)
   unfolding inherited_value
-  inherited_root field e =
-      ap (first_stated field config) (line_of-root config first n e) ∙ ap (λ o. option_or (option_map_or field o None) None) here
+  inherited field None e = rw (line_of-root config first n e, here)
+  inherited field (Some parent) e = rw (line_of-child config first n parent e, here)
 
-  inherited_child : {X : Type 0} (field : Route → Option X) (parent : ℕ) → parent_of config n ≡ Some parent → inherited_value field config n ≡ option_or (field route) (inherited_value field config parent)
-  unfolding inherited_value
-  inherited_child field parent e =
-      ap (first_stated field config) (line_of-child config first n parent e)
-      ∙ ap (λ o. option_or (option_map_or field o None) (first_stated field config (line_of config parent))) here
-
-  pub path_root : parent_of config n ≡ None → path_of config n ≡ sorted_matchers route.matchers ∷ []
+  pub path_at : (above : Option ℕ) → parent_of config n ≡ above → path_of config n ≡ option_map_or (path_of config) above [] ++ sorted_matchers route.matchers ∷ []
   unfolding path_of
-  path_root e =
-      ap (λ ns. reverse (map (λ m. option_map_or (λ (route : Route). sorted_matchers route.matchers) (slice_get config.routes m) []) ns)) (line_of-root config first n e)
-      ∙ ap (λ o. option_map_or (λ (route : Route). sorted_matchers route.matchers) o [] ∷ []) here
-
-  pub path_child : (parent : ℕ) → parent_of config n ≡ Some parent → path_of config n ≡ path_of config parent ++ sorted_matchers route.matchers ∷ []
-  unfolding path_of
-  path_child parent e =
-      ap (λ ns. reverse (map (λ m. option_map_or (λ (route : Route). sorted_matchers route.matchers) (slice_get config.routes m) []) ns)) (line_of-child config first n parent e)
-      ∙ reverse-append (option_map_or (λ (route : Route). sorted_matchers route.matchers) (slice_get config.routes n) [] ∷ []) (map (λ m. option_map_or (λ (route : Route). sorted_matchers route.matchers) (slice_get config.routes m) []) (line_of config parent))
-      ∙ ap (λ o. reverse (map (λ m. option_map_or (λ (route : Route). sorted_matchers route.matchers) (slice_get config.routes m) []) (line_of config parent)) ++ option_map_or (λ (route : Route). sorted_matchers route.matchers) o [] ∷ []) here
-
-  value_root : {X : Type 0} (field : Route → Option X) (d : X) → parent_of config n ≡ None → unwrap_or (field route) d ≡ unwrap_or (inherited_value field config n) d
-  value_root field d e = sym (ap (λ o. unwrap_or o d) (inherited_root field e) ∙ stated_or (field route) None d)
-
-  value_child : {X : Type 0} (field : Route → Option X) (d : X) (parent : ℕ) → parent_of config n ≡ Some parent → unwrap_or (field route) (unwrap_or (inherited_value field config parent) d) ≡ unwrap_or (inherited_value field config n) d
-  value_child field d parent e = sym (ap (λ o. unwrap_or o d) (inherited_child field parent e) ∙ stated_or (field route) (inherited_value field config parent) d)
-
-  own : {X : Type 0} (field : Route → X) (d : X) → field route ≡ option_map_or field (slice_get config.routes n) d
-  own field d = sym (ap (λ o. option_map_or field o d) here)
+  path_at None e = rw (line_of-root config first n e, here)
+  path_at (Some parent) e =
+      rw (line_of-child config first n parent e) (reverse-append (option_map_or (λ (route : Route). sorted_matchers route.matchers) (slice_get config.routes n) [] ∷ []) (map (λ m. option_map_or (λ (route : Route). sorted_matchers route.matchers) (slice_get config.routes m) []) (line_of config parent)) ∙ rw here refl)
 
   own_parent : route.parent ≡ parent_of config n
-  own_parent = own (λ r. r.parent) None
-
-  heir_by : (stated : Option Text) → route.receiver ≡ stated → (parent : ℕ) → option_map_or (λ name. None) stated route.parent ≡ Some parent → (parent < n) × (receiver_name_of config parent ≡ receiver_name_of config n)
-  heir_by None is parent e =
-      let up : parent_of config n ≡ Some parent = sym own_parent ∙ e in
-      (first n parent up, sym (ap (λ o. unwrap_or o []) (inherited_child (λ r. r.receiver) parent up ∙ ap (λ o. option_or o (inherited_value (λ r. r.receiver) config parent)) is)))
-  heir_by (Some name) is parent e = cc
+  own_parent = rw here
 
   -- a route that inherits its receiver comes after its parent and has its parent's
   pub heir : (parent : ℕ) → receiver_parent route ≡ Some parent → (parent < n) × (receiver_name_of config parent ≡ receiver_name_of config n)
-  heir parent e = heir_by route.receiver refl parent e
+  heir parent e =
+      let up : parent_of config n ≡ Some parent = grind (arith, own_parent) in
+      (first n parent up, grind (arith, inherited (λ r. r.receiver) (Some parent) up))
 
-  settings_root : parent_of config n ≡ None → settled_under route None ≡ settings_of config n
+  settings_under : (above : Option ℕ) → parent_of config n ≡ above → settled_under route (option_map (settings_of config) above) ≡ settings_of config n
   unfolding settled_under settings_of
-  settings_root e =
-      let receiver = value_root (λ r. r.receiver) [] e in
-      let group_by = sym (inherited_root (λ r. r.group_by) e) in
-      let group_wait = value_root (λ r. r.group_wait) (GROUP_WAIT_SECONDS * second) e in
-      let group_interval = value_root (λ r. r.group_interval) (GROUP_INTERVAL_MINUTES * minute) e in
-      let repeat_interval = value_root (λ r. r.repeat_interval) (REPEAT_INTERVAL_HOURS * hour) e in
-      let path = sym (path_root e) in
-      λ i. record { parent = own_parent i; matchers = own (λ r. r.matchers) [] i; continues = own (λ r. r.continues) false i; receiver = receiver i; group_by = group_by i; group_wait = group_wait i; group_interval = group_interval i; repeat_interval = repeat_interval i; active_time_intervals = own (λ r. r.active_time_intervals) [] i; mute_time_intervals = own (λ r. r.mute_time_intervals) [] i; path = path i }
-
-  settings_child : (parent : ℕ) → parent_of config n ≡ Some parent → settled_under route (Some (settings_of config parent)) ≡ settings_of config n
-  unfolding settled_under settings_of
-  settings_child parent e =
-      let receiver = value_child (λ r. r.receiver) [] parent e in
-      let group_by = sym (inherited_child (λ r. r.group_by) parent e) in
-      let group_wait = value_child (λ r. r.group_wait) (GROUP_WAIT_SECONDS * second) parent e in
-      let group_interval = value_child (λ r. r.group_interval) (GROUP_INTERVAL_MINUTES * minute) parent e in
-      let repeat_interval = value_child (λ r. r.repeat_interval) (REPEAT_INTERVAL_HOURS * hour) parent e in
-      let path = sym (path_child parent e) in
-      λ i. record { parent = own_parent i; matchers = own (λ r. r.matchers) [] i; continues = own (λ r. r.continues) false i; receiver = receiver i; group_by = group_by i; group_wait = group_wait i; group_interval = group_interval i; repeat_interval = repeat_interval i; active_time_intervals = own (λ r. r.active_time_intervals) [] i; mute_time_intervals = own (λ r. r.mute_time_intervals) [] i; path = path i }
+  settings_under above e =
+      grind (arith, here, own_parent, path_at above e, inherited (λ r. r.receiver) above e, inherited (λ r. r.group_by) above e, inherited (λ r. r.group_wait) above e, inherited (λ r. r.group_interval) above e, inherited (λ r. r.repeat_interval) above e)
 
   found_above : (parent : ℕ) → parent < n → slice_get (settled_to config n) parent ≡ Some (settings_of config parent)
   unfolding settled_to
@@ -96,8 +46,8 @@ module _ (config : Config) (first : AreParentsFirst config) (n : ℕ) (route : R
       ∙ ap (λ x. Some x) (get_or-map-range_with_len (settings_of config) 0 n parent parent (settings_of config parent) lt (omega arith))
 
   settings_by : (o : Option ℕ) → parent_of config n ≡ o → settled_under route (option_and_then (slice_get (settled_to config n)) o) ≡ settings_of config n
-  settings_by None e = settings_root e
-  settings_by (Some parent) e = ap (settled_under route) (found_above parent (first n parent e)) ∙ settings_child parent e
+  settings_by None e = settings_under None e
+  settings_by (Some parent) e = ap (settled_under route) (found_above parent (first n parent e)) ∙ settings_under (Some parent) e
 
   settings_here : settled_under route (option_and_then (slice_get (settled_to config n)) route.parent) ≡ settings_of config n
   settings_here = settings_by route.parent (sym own_parent)

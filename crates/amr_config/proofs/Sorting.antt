@@ -1,68 +1,35 @@
 -- Lists of matchers with the same elements are the same when sorted.
-use Rattle.std.proofs.Common.{◌≡◌, ℕ, ◌+◌, ◌<◌, suc, Bool, true, false, true≢false, cond, List, [], ◌∷◌, ◌++◌, get_or, refl, sym, ap, subst, ◌∙◌, arith}
-use Rattle.std.specs.Prelude.{IsPermutation, IsSorted, sum_by}
-use Rattle.std.specs.Ordering.{is_eq, is_gt, is_lt, ordering_reverse}
-use Rattle.std.specs.declared.cmp.Ordering.{Ordering}
-use Rattle.std.specs.declared.cmp.Ordering.TheVariants.{Less, Equal, Greater}
+use Rattle.std.proofs.Common.{◌≡◌, ℕ, ◌+◌, ◌<◌, suc, cond, List, [], ◌∷◌, ◌++◌, refl, sym, ap, if◌then◌else◌, subst, arith, IsPermutation, IsSorted, sum_by, Ordering, Equal}
+use Rattle.std.specs.Ordering.{is_eq, is_gt}
 use Rattle.std.proofs.lemmas.List.Sorted.{sum_by-IsPermutation}
 use Rattle.std.proofs.lemmas.List.Sums.{sum_by-cons, sum_by-append}
-use Rattle.std.specs.Cmp.{tied_itself}
+use Rattle.std.specs.Cmp.{IsTotalOrder, tied_itself}
+use Rattle.std.specs.FinMap.{IsAntisymmetric}
 use Rattle.amr_labels.specs.Matcher.Matchers.{Matcher, matcher_cmp, matcher_cmp_total, matcher_cmp-IsAntisymmetric}
 use Rattle.amr_config.specs.Routing.{with_matcher, sorted_matchers}
 
--- ---- the order of two matchers
-
-turned : (a b : Matcher) → matcher_cmp b a ≡ ordering_reverse (matcher_cmp a b)
-turned a b = matcher_cmp_total.antisymm b a
-
-above : (a b : Matcher) → matcher_cmp a b ≡ Less → is_gt (matcher_cmp b a) ≡ true
-above a b e = ap is_gt (turned a b ∙ ap ordering_reverse e)
-
-below : (o : Ordering) → is_gt o ≡ true → ordering_reverse o ≡ Less
-below Greater e = refl
-below o e = absurd (true≢false (sym e))
-
--- what is above the greater of two is above the lesser
-above_both : (a b m : Matcher) → matcher_cmp a b ≡ Less → is_gt (matcher_cmp m b) ≡ true → is_gt (matcher_cmp m a) ≡ true
-above_both a b m less e = above a m (matcher_cmp_total.trans a b m less (turned m b ∙ below (matcher_cmp m b) e))
-
 -- ---- two matchers may be inserted in either order
 
-goes_first : (m a : Matcher) (ms : List Matcher) → is_gt (matcher_cmp m a) ≡ true → with_matcher (m ∷ ms) a ≡ a ∷ m ∷ ms
-goes_first m a ms e = ap (λ b. cond b (a ∷ m ∷ ms) (m ∷ with_matcher ms a)) e
+abbrev with_one : {X : Type 0} → (X → X → Ordering) → List X → X → List X
+with_one cmp [] x = x ∷ []
+with_one cmp (y ∷ ys) x = if is_gt (cmp y x) then x ∷ y ∷ ys else y ∷ with_one cmp ys x
 
-goes_after : (m a : Matcher) (ms : List Matcher) → is_gt (matcher_cmp m a) ≡ false → with_matcher (m ∷ ms) a ≡ m ∷ with_matcher ms a
-goes_after m a ms e = ap (λ b. cond b (a ∷ m ∷ ms) (m ∷ with_matcher ms a)) e
+either_one : {X : Type 0} (cmp : X → X → Ordering) → IsTotalOrder cmp → IsAntisymmetric cmp → (a b : X) (xs : List X) → with_one cmp (with_one cmp xs a) b ≡ with_one cmp (with_one cmp xs b) a
+either_one cmp total same a b [] = grind (arith, total.antisymm a b, same a b)
+either_one cmp total same a b (x ∷ xs) =
+    grind (arith, either_one cmp total same a b xs, total.antisymm, total.trans a b x, total.trans b a x, same)
 
-abbrev EitherOrder : Matcher → Matcher → List Matcher → Type 0
-EitherOrder a b ms = with_matcher (with_matcher ms a) b ≡ with_matcher (with_matcher ms b) a
+as_one : (ms : List Matcher) (a : Matcher) → with_matcher ms a ≡ with_one matcher_cmp ms a
+as_one [] a = refl
+as_one (m ∷ ms) a = ap (λ l. if is_gt (matcher_cmp m a) then a ∷ m ∷ ms else m ∷ l) (as_one ms a)
 
-lesser_at : (a b : Matcher) → matcher_cmp a b ≡ Less → (m : Matcher) (ms : List Matcher) (p q : Bool) → is_gt (matcher_cmp m a) ≡ p → is_gt (matcher_cmp m b) ≡ q
-    → EitherOrder a b ms → EitherOrder a b (m ∷ ms)
-lesser_at a b less m ms true true ep eq again =
-    ap (λ l. with_matcher l b) (goes_first m a ms ep) ∙ goes_after a b (m ∷ ms) (ap is_gt less) ∙ ap (λ l. a ∷ l) (goes_first m b ms eq)
-    ∙ sym (ap (λ l. with_matcher l a) (goes_first m b ms eq) ∙ goes_first b a (m ∷ ms) (above a b less))
-lesser_at a b less m ms true false ep eq again =
-    ap (λ l. with_matcher l b) (goes_first m a ms ep) ∙ goes_after a b (m ∷ ms) (ap is_gt less) ∙ ap (λ l. a ∷ l) (goes_after m b ms eq)
-    ∙ sym (ap (λ l. with_matcher l a) (goes_after m b ms eq) ∙ goes_first m a (with_matcher ms b) ep)
-lesser_at a b less m ms false true ep eq again = absurd (true≢false (sym (above_both a b m less eq) ∙ ep))
-lesser_at a b less m ms false false ep eq again =
-    ap (λ l. with_matcher l b) (goes_after m a ms ep) ∙ goes_after m b (with_matcher ms a) eq ∙ ap (λ l. m ∷ l) again
-    ∙ sym (ap (λ l. with_matcher l a) (goes_after m b ms eq) ∙ goes_after m a (with_matcher ms b) ep)
-
-lesser : (a b : Matcher) → matcher_cmp a b ≡ Less → (ms : List Matcher) → EitherOrder a b ms
-lesser a b less [] = goes_after a b [] (ap is_gt less) ∙ sym (goes_first b a [] (above a b less))
-lesser a b less (m ∷ ms) = lesser_at a b less m ms (is_gt (matcher_cmp m a)) (is_gt (matcher_cmp m b)) refl refl (lesser a b less ms)
-
-either : (a b : Matcher) (o : Ordering) → matcher_cmp a b ≡ o → (ms : List Matcher) → EitherOrder a b ms
-either a b Less e ms = lesser a b e ms
-either a b Equal e ms = let same : a ≡ b = matcher_cmp-IsAntisymmetric a b e in λ i. with_matcher (with_matcher ms (same i)) (sym same i)
-either a b Greater e ms = sym (lesser b a (turned a b ∙ ap ordering_reverse e) ms)
+either : (a b : Matcher) (ms : List Matcher) → with_matcher (with_matcher ms a) b ≡ with_matcher (with_matcher ms b) a
+either a b ms = simp as_one (either_one matcher_cmp matcher_cmp_total matcher_cmp-IsAntisymmetric a b ms)
 
 -- a matcher inside a list may be inserted last
 inserted : (us vs : List Matcher) (x : Matcher) → sorted_matchers (us ++ x ∷ vs) ≡ with_matcher (sorted_matchers (us ++ vs)) x
 inserted [] vs x = refl
-inserted (u ∷ us) vs x = ap (λ l. with_matcher l u) (inserted us vs x) ∙ either x u (matcher_cmp x u) refl (sorted_matchers (us ++ vs))
+inserted (u ∷ us) vs x = grind (arith, inserted us vs x, either x u (sorted_matchers (us ++ vs)))
 
 -- ---- lists that have each matcher equally often
 
@@ -72,67 +39,49 @@ one_if_same x y = cond (is_eq (matcher_cmp x y)) 1 0
 abbrev times : Matcher → List Matcher → ℕ
 times x ys = sum_by (one_if_same x) ys
 
-abbrev Found : Matcher → List Matcher → Type 0
-Found x ys = (us : List Matcher) × (vs : List Matcher) × (ys ≡ us ++ x ∷ vs)
-
-found_later : (x y : Matcher) (ys : List Matcher) → Found x ys → Found x (y ∷ ys)
-found_later x y ys f = (y ∷ f.0, f.1, ap (λ l. y ∷ l) f.2)
-
-still : (x y : Matcher) (ys : List Matcher) (o : Ordering) → matcher_cmp x y ≡ o → is_eq o ≡ false → 0 < times x (y ∷ ys) → 0 < times x ys
-still x y ys o e other there =
-    let none : one_if_same x y ≡ 0 = ap (λ r. cond (is_eq r) 1 0) e ∙ ap (λ b. cond b 1 0) other in
-    omega (arith, sum_by-cons (one_if_same x) y ys)
-
-found_at : (x y : Matcher) (ys : List Matcher) (o : Ordering) → matcher_cmp x y ≡ o → (0 < times x ys → Found x ys) → 0 < times x (y ∷ ys) → Found x (y ∷ ys)
-found_at x y ys Less e again there = found_later x y ys (again (still x y ys Less e refl there))
-found_at x y ys Equal e again there = ([], ys, ap (λ z. z ∷ ys) (sym (matcher_cmp-IsAntisymmetric x y e)))
-found_at x y ys Greater e again there = found_later x y ys (again (still x y ys Greater e refl there))
-
-found : (x : Matcher) (ys : List Matcher) → 0 < times x ys → Found x ys
+found : (x : Matcher) (ys : List Matcher) → 0 < times x ys → (us : List Matcher) × (vs : List Matcher) × (ys ≡ us ++ x ∷ vs)
 found x [] there = absurd (omega arith)
-found x (y ∷ ys) there = found_at x y ys (matcher_cmp x y) refl (found x ys) there
-
-itself : (x : Matcher) → one_if_same x x ≡ 1
-itself x = ap (λ o. cond (is_eq o) 1 0) (tied_itself matcher_cmp_total x)
+found x (y ∷ ys) there = go (matcher_cmp x y) refl (found x ys)
+  where
+    go : (o : Ordering) → matcher_cmp x y ≡ o → (0 < times x ys → (us : List Matcher) × (vs : List Matcher) × (ys ≡ us ++ x ∷ vs)) → (us : List Matcher) × (vs : List Matcher) × (y ∷ ys ≡ us ++ x ∷ vs)
+    go Equal e again = ([], ys, grind (arith, matcher_cmp-IsAntisymmetric x y))
+    go o e again =
+        let (us, vs, is) = again (grind (arith, sum_by-cons)) in
+        (y ∷ us, vs, ap (λ l. y ∷ l) is)
 
 -- the list has its first matcher
 has_first : (x : Matcher) (xs : List Matcher) → 0 < times x (x ∷ xs)
-has_first x xs = omega (arith, sum_by-cons (one_if_same x) x xs, itself x)
+has_first x xs = grind (arith, sum_by-cons (one_if_same x) x xs, tied_itself matcher_cmp_total x)
 
-left_over : (z x : Matcher) (xs us vs : List Matcher) → times z (x ∷ xs) ≡ times z (us ++ x ∷ vs) → times z xs ≡ times z (us ++ vs)
-left_over z x xs us vs e =
-    omega (arith, e, sum_by-cons (one_if_same z) x xs, sum_by-cons (one_if_same z) x vs, sum_by-append (one_if_same z) us (x ∷ vs), sum_by-append (one_if_same z) us vs)
+left_over : (z x : Matcher) (xs ys us vs : List Matcher) → ys ≡ us ++ x ∷ vs → times z (x ∷ xs) ≡ times z ys → times z xs ≡ times z (us ++ vs)
+left_over z x xs ys us vs is e =
+    omega (arith, e, ap (times z) is, sum_by-cons (one_if_same z) x xs, sum_by-cons (one_if_same z) x vs, sum_by-append (one_if_same z) us (x ∷ vs), sum_by-append (one_if_same z) us vs)
 
 same_sorted : (xs ys : List Matcher) → ((z : Matcher) → times z xs ≡ times z ys) → sorted_matchers xs ≡ sorted_matchers ys
 same_sorted [] [] h = refl
 same_sorted [] (y ∷ ys) h = absurd (omega (arith, h y, has_first y ys))
 same_sorted (x ∷ xs) ys h =
-    let f = found x ys (subst (λ (n : ℕ). 0 < n) (h x) (has_first x xs)) in
-    ap (λ l. with_matcher l x) (same_sorted xs (f.0 ++ f.1) (λ z. left_over z x xs f.0 f.1 (h z ∙ ap (times z) f.2)))
-    ∙ sym (ap sorted_matchers f.2 ∙ inserted f.0 f.1 x)
+    let (us, vs, is) = found x ys (omega (arith, h x, has_first x xs)) in
+    let rest = same_sorted xs (us ++ vs) (λ z. left_over z x xs ys us vs is (h z)) in
+    grind (arith, inserted us vs x)
 
 -- ---- lists that are in order
 
 rest_in_order : (y : Matcher) (ys : List Matcher) → IsSorted matcher_cmp (y ∷ ys) → IsSorted matcher_cmp ys
 rest_in_order y ys h k d low high =
-    subst (λ (n : ℕ). is_lt (matcher_cmp (get_or (y ∷ ys) n d) (get_or ys k d)) ≡ false) {x = suc k + 1} {y = suc (k + 1)} (omega arith) (h (suc k) d (omega arith) (omega arith))
-
-stays_first : (y z : Matcher) (zs : List Matcher) (o : Ordering) → matcher_cmp z y ≡ o → is_lt o ≡ false → IsSorted matcher_cmp (z ∷ zs)
-    → (IsSorted matcher_cmp (y ∷ zs) → with_matcher zs y ≡ y ∷ zs) → with_matcher (z ∷ zs) y ≡ y ∷ z ∷ zs
-stays_first y z zs Less e not_less h again = absurd (true≢false not_less)
-stays_first y z zs Equal e not_less h again =
-    let same : z ≡ y = matcher_cmp-IsAntisymmetric z y e in
-    goes_after z y zs (ap is_gt e) ∙ ap (λ l. z ∷ l) (again (subst (λ (m : Matcher). IsSorted matcher_cmp (m ∷ zs)) same h)) ∙ (λ i. same i ∷ sym same i ∷ zs)
-stays_first y z zs Greater e not_less h again = goes_first z y zs (ap is_gt e)
+    let above = h (suc k) d (omega arith) (omega arith) in
+    grind arith
 
 first_stays : (y : Matcher) (zs : List Matcher) → IsSorted matcher_cmp (y ∷ zs) → with_matcher zs y ≡ y ∷ zs
 first_stays y [] h = refl
-first_stays y (z ∷ zs) h = stays_first y z zs (matcher_cmp z y) refl (h 0 y (omega arith) (omega arith)) (rest_in_order y (z ∷ zs) h) (first_stays y zs)
+first_stays y (z ∷ zs) h =
+    let again : z ≡ y → with_matcher zs y ≡ y ∷ zs = λ e. first_stays y zs (subst (λ (m : Matcher). IsSorted matcher_cmp (m ∷ zs)) e (rest_in_order y (z ∷ zs) h)) in
+    grind (arith, h 0 y, matcher_cmp-IsAntisymmetric z y)
 
 in_order_stays : (ys : List Matcher) → IsSorted matcher_cmp ys → sorted_matchers ys ≡ ys
 in_order_stays [] h = refl
-in_order_stays (y ∷ ys) h = ap (λ l. with_matcher l y) (in_order_stays ys (rest_in_order y ys h)) ∙ first_stays y ys h
+in_order_stays (y ∷ ys) h = grind (arith, in_order_stays ys (rest_in_order y ys h), first_stays y ys h)
 
 -- a list in order with the elements of another is that other, sorted
 pub sorted_is : (xs ys : List Matcher) → IsPermutation xs ys → IsSorted matcher_cmp ys → ys ≡ sorted_matchers xs
-sorted_is xs ys moved up = sym (same_sorted xs ys (λ z. sym (sum_by-IsPermutation (one_if_same z) xs ys moved)) ∙ in_order_stays ys up)
+sorted_is xs ys moved up = grind (arith, same_sorted xs ys (λ z. sym (sum_by-IsPermutation (one_if_same z) xs ys moved)), in_order_stays ys up)

@@ -1,12 +1,11 @@
 -- What is read is what the file says, and a refusal of its shape is that of the first fault.
-use Rattle.std.proofs.Common.{◌≡◌, ℕ, Bool, true, false, List, ◌++◌, Option, Some, None, Result, Ok, Err, inl, inr, refl, sym, ap, subst, ◌∙◌}
-use Rattle.std.proofs.lemmas.List.{append-nil}
+use Rattle.std.proofs.Common.{◌≡◌, ℕ, false, List, Option, Some, None, Result, Ok, Err, inl, inr, refl, sym, ap, subst, ◌∙◌, append-nil, arith}
+use Rattle.std.proofs.lemmas.Bool.{false_from_ne_true}
 use Rattle.serde_json.specs.Data.{Data}
 use Rattle.amr_labels.specs.Labels.{Text}
 use Rattle.amr_config.specs.declared.read.error.Refusal.{Refusal}
 use Rattle.amr_config.specs.declared.stated.stated.Stated.{Stated}
-use Rattle.amr_config.specs.Read.Levels.{HasDeepRoute}
-use Rattle.amr_config.specs.Read.Readings.{Reading, plain, next, value_after, patterns_after, MayGive, IsBadPattern}
+use Rattle.amr_config.specs.Read.Readings.{Reading, plain, next, value_after, MayGive, IsBadPattern}
 use Rattle.amr_config.specs.Read.RouteParts.{is_too_deep}
 use Rattle.amr_config.specs.Read.Walking.{walked_at}
 use Rattle.amr_config.specs.Read.Table.{StatesWhole}
@@ -30,11 +29,7 @@ what_is_read_is_stated d config e =
 
 same_patterns : {A B : Type 0} (part : Reading A) (f : A → Result B Refusal) → (next part (λ x. plain (f x))).patterns ≡ part.patterns
 unfolding next
-same_patterns part f = go part.value
-  where
-    go : (r : Result _ Refusal) → part.patterns ++ patterns_after r (λ x. plain (f x)) ≡ part.patterns
-    go (Ok x) = append-nil part.patterns
-    go (Err refusal) = append-nil part.patterns
+same_patterns part f = grind (arith, append-nil)
 
 by_value : (d : Data) (answer : Result Config Refusal) (r : Result Stated Refusal) → Tells r (findings_of d) (StatesWhole d) → value_after r (λ stated. plain (unless_refused stated (refusal_of stated))) ≡ answer → AnswersBy d (first_fault (findings_of d)) answer
 by_value d answer (Ok stated) (none, states) is = rw none (inl (stated, states, sym is))
@@ -52,18 +47,11 @@ answered d (Err refusal) j (inr bad) =
     let same = same_patterns (walked_at d) (λ stated. unless_refused stated (refusal_of stated)) ∙ j.met in
     by_pattern d refusal (first_fault (findings_of d)) (subst (λ (patterns : List (List ℕ × Text)). IsBadPattern patterns refusal) same bad)
 
-not_too_deep : (d : Data) → ¬ HasDeepRoute d → is_too_deep d ≡ false
-not_too_deep d none = go (is_too_deep d) refl
-  where
-    go : (b : Bool) → is_too_deep d ≡ b → is_too_deep d ≡ false
-    go true is = absurd (none (deep_route_of d is))
-    go false is = is
-
 past_depth : (d : Data) → is_too_deep d ≡ false → reading_of d ≡ next (walked_at d) (λ stated. plain (unless_refused stated (refusal_of stated)))
 unfolding reading_of
 past_depth d shallow = rw shallow refl
 
 pub answers_go_by_the_first_fault : AnswersGoByTheFirstFault
 answers_go_by_the_first_fault d answer none is =
-    let shallow = not_too_deep d none in
+    let shallow = false_from_ne_true (is_too_deep d) (λ deep. none (deep_route_of d deep)) in
     answered d answer (walked_judged d shallow) (subst (λ (reading : Reading Config). MayGive reading answer) (past_depth d shallow) is)

@@ -1,34 +1,27 @@
 -- The routes have more levels than are left exactly if a route is that deep.
-use Rattle.std.proofs.Common.{◌≡◌, ℕ, zero, suc, ◌+◌, ◌-◌, Bool, true, false, ◌||◌, true≢false, Option, Some, None, refl, sym, subst, arith, codes}
-use Rattle.std.proofs.Math.Bool.{or-true}
+use Rattle.std.proofs.Common.{◌≡◌, ℕ, zero, suc, ◌+◌, ◌-◌, Bool, true, false, Option, Some, None, refl, subst, arith, codes}
 use Rattle.std.specs.Option.{option_map_or}
 use Rattle.serde_json.specs.Data.{Data, array, Items, no_items, item}
 use Rattle.serde_json.specs.Find.{get_item}
-use Rattle.amr_config.specs.Read.Members.{member_of}
+use Rattle.amr_config.specs.Read.Members.{member_of, any_item, list_in}
 use Rattle.amr_config.specs.Read.RouteParts.{is_deeper, is_too_deep}
-use Rattle.amr_config.specs.Read.Members.{any_item, list_in}
 use Rattle.amr_config.specs.Read.Levels.{IsAtLevel, Root, Below, HasDeepRoute}
-
-no_truth : {A : Type 0} → false ≡ true → A
-no_truth e = absurd (true≢false (sym e))
 
 -- an item that passes the test has an index
 any_found : (p : Data → Bool) (ds : Items) → any_item p ds ≡ true → (index : ℕ) × (d : Data) × (get_item index ds ≡ Some d) × (p d ≡ true)
-any_found p no_items e = no_truth e
-any_found p (item d ds) e = go (p d) refl e (any_found p ds)
+any_found p no_items e = absurd (cc)
+any_found p (item d ds) e = go (p d) refl (any_found p ds)
   where
-    go : (b : Bool) → p d ≡ b → (b || any_item p ds) ≡ true → (any_item p ds ≡ true → (index : ℕ) × (e : Data) × (get_item index ds ≡ Some e) × (p e ≡ true)) → (index : ℕ) × (e : Data) × (get_item index (item d ds) ≡ Some e) × (p e ≡ true)
-    go true is e later = (0, d, refl, is)
-    go false is e later =
-        let (index, found, at, holds) = later e in
+    go : (b : Bool) → p d ≡ b → (any_item p ds ≡ true → (index : ℕ) × (e : Data) × (get_item index ds ≡ Some e) × (p e ≡ true)) → (index : ℕ) × (e : Data) × (get_item index (item d ds) ≡ Some e) × (p e ≡ true)
+    go true is later = (0, d, refl, is)
+    go false is later =
+        let (index, found, at, holds) = later (grind arith) in
         (suc index, found, at, holds)
 
 any_from : (p : Data → Bool) (ds : Items) (index : ℕ) (d : Data) → get_item index ds ≡ Some d → p d ≡ true → any_item p ds ≡ true
 any_from p no_items index d at holds = absurd (cc)
-any_from p (item e ds) zero d at holds =
-    let same : e ≡ d = cc in
-    rw same (rw holds)
-any_from p (item e ds) (suc index) d at holds = rw (any_from p ds index d at holds) (or-true (p e))
+any_from p (item e ds) zero d at holds = grind arith
+any_from p (item e ds) (suc index) d at holds = grind (arith, any_from p ds index d at holds)
 
 any_weaker : (p q : Data → Bool) (ds : Items) → ((d : Data) → p d ≡ true → q d ≡ true) → any_item p ds ≡ true → any_item q ds ≡ true
 any_weaker p q ds weaker e =
@@ -38,7 +31,7 @@ any_weaker p q ds weaker e =
 -- an item that is found is in an array
 list_there : (p : Data → Bool) (o : Option Data) → any_item p (list_in o) ≡ true → (list : Items) × (o ≡ Some (array list)) × (any_item p list ≡ true)
 list_there p (Some (array ds)) e = (ds, refl, e)
-list_there p o e = no_truth e
+list_there p o e = absurd (cc)
 
 -- if a route has more levels than are left, one is that far below it
 goes_down : (whole : Data) (left : ℕ) (d : Data) (level : ℕ) → IsAtLevel whole d level → is_deeper left d ≡ true → (route : Data) × IsAtLevel whole route (level + left)
@@ -62,7 +55,7 @@ goes_up : (whole root d : Data) (level : ℕ) → IsAtLevel whole d level → me
 goes_up whole root _ _ (Root top is) there left most sum e =
     let same : top ≡ root = cc in
     let as_many : left ≡ most = omega arith in
-    rw same at (rw as_many at e)
+    rw (same, as_many) at e
 goes_up whole root _ _ (Below above list index d level at is found) there left most sum e =
     goes_up whole root above level at there (suc left) most (omega arith) (one_up left above d list index is found e)
 
@@ -76,30 +69,24 @@ shallower zero d e = refl
 shallower (suc most) d e = any_weaker (is_deeper (suc most)) (is_deeper most) (list_in (member_of (codes "routes") d)) (shallower most) e
 
 much_shallower : (more n most : ℕ) (d : Data) → n ≡ more + most → is_deeper n d ≡ true → is_deeper most d ≡ true
-much_shallower zero n most d is e =
-    let same : n ≡ most = omega arith in
-    rw same at e
+much_shallower zero n most d is e = grind arith
 much_shallower (suc more) n most d is e =
     let same : n ≡ suc (more + most) = omega arith in
     much_shallower more (more + most) most d refl (shallower (more + most) d (rw same at e))
-
-here : (d : Data) → is_deeper 0 d ≡ true
-unfolding is_deeper
-here d = refl
 
 pub deep_route_of : (d : Data) → is_too_deep d ≡ true → HasDeepRoute d
 unfolding is_too_deep
 deep_route_of d e = go (member_of (codes "route") d) refl e
   where
     go : (o : Option Data) → member_of (codes "route") d ≡ o → option_map_or (is_deeper 32) o false ≡ true → HasDeepRoute d
-    go None is e = no_truth e
+    go None is e = absurd (cc)
     go (Some root) is e =
         let (route, at) = goes_down d 32 root 1 (Root root is) e in
         (route, 33, at, omega arith)
 
 pub too_deep_by : (d : Data) → HasDeepRoute d → is_too_deep d ≡ true
-unfolding is_too_deep
+unfolding is_too_deep is_deeper
 too_deep_by d (route, level, at, deep) =
     let (root, is) = root_there d route level at in
-    let far : is_deeper (level - 1) root ≡ true = goes_up d root route level at is 0 (level - 1) (omega arith) (here route) in
+    let far : is_deeper (level - 1) root ≡ true = goes_up d root route level at is 0 (level - 1) (omega arith) refl in
     rw is (much_shallower (level - 33) (level - 1) 32 root (omega arith) far)

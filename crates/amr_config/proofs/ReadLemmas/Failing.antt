@@ -1,6 +1,5 @@
 -- Where a part of a reading fails, the whole fails.
-use Rattle.std.proofs.Common.{◌≡◌, ℕ, List, Result, Ok, Err, refl}
-use Rattle.std.specs.Result.{IsErrAnd}
+use Rattle.std.proofs.Common.{◌≡◌, ℕ, List, Result, Ok, Err, refl, IsErrAnd}
 use Rattle.amr_config.specs.declared.read.error.ConfigError.{ConfigError}
 use Rattle.amr_config.specs.declared.read.error.ConfigError.TheVariants.{Memory, Refused}
 use Rattle.amr_config.specs.Read.Answers.{IsFault, Fails, Gives}

@@ -1,6 +1,6 @@
 -- Parts of a reading: what is read states what is there, a refusal is that of the first fault, and the patterns that are met are those before it.
-use Rattle.std.proofs.Common.{◌≡◌, ℕ, ◌+◌, Bool, true, false, not, if◌then◌else◌, List, [], ◌∷◌, ◌++◌, Option, Some, None, Result, Ok, Err, refl, sym, ap, subst, ◌∙◌, append_assoc}
-use Rattle.std.proofs.lemmas.List.{append-nil}
+use Rattle.std.proofs.Common.{◌≡◌, ℕ, ◌+◌, Bool, true, false, not, if◌then◌else◌, List, [], ◌∷◌, ◌++◌, Option, Some, None, Result, Ok, Err, refl, sym, ap, subst, ◌∙◌, append_assoc, append-nil, arith}
+use Rattle.std.specs.Option.{option_or}
 use Rattle.serde_json.specs.Data.{Data, Items, no_items, item}
 use Rattle.serde_json.specs.Find.{as_str, as_bool, as_array, as_object}
 use Rattle.amr_labels.specs.Labels.{Text}
@@ -14,45 +14,26 @@ use Rattle.amr_config.specs.Read.Faults.{Finding, Fault, Pattern, first_fault, p
 
 -- ---- findings one after another
 
-then_fault : Option (List ℕ) → Option (List ℕ) → Option (List ℕ)
-then_fault None later = later
-then_fault (Some path) later = Some path
-
-first_of_both : (fs gs : List Finding) → first_fault (fs ++ gs) ≡ then_fault (first_fault fs) (first_fault gs)
-unfolding then_fault
+first_of_both : (fs gs : List Finding) → first_fault (fs ++ gs) ≡ option_or (first_fault fs) (first_fault gs)
 first_of_both [] gs = refl
 first_of_both (Fault path ∷ fs) gs = refl
 first_of_both (Pattern path text ∷ fs) gs = first_of_both fs gs
 
-then_patterns : Option (List ℕ) → List (List ℕ × Text) → List (List ℕ × Text) → List (List ℕ × Text)
-then_patterns None before later = before ++ later
-then_patterns (Some path) before later = before
-
-before_both : (fs gs : List Finding) → patterns_before (fs ++ gs) ≡ then_patterns (first_fault fs) (patterns_before fs) (patterns_before gs)
-unfolding then_patterns
-before_both [] gs = refl
-before_both (Fault path ∷ fs) gs = refl
-before_both (Pattern path text ∷ fs) gs = before_more (first_fault fs) (before_both fs gs)
-  where
-    before_more : (o : Option (List ℕ)) → patterns_before (fs ++ gs) ≡ then_patterns o (patterns_before fs) (patterns_before gs) → (path, text) ∷ patterns_before (fs ++ gs) ≡ then_patterns o ((path, text) ∷ patterns_before fs) (patterns_before gs)
-    before_more None e = ap (λ l. (path, text) ∷ l) e
-    before_more (Some p) e = ap (λ l. (path, text) ∷ l) e
-
 pub no_fault_in_both : (fs gs : List Finding) (o : Option (List ℕ)) → first_fault fs ≡ None → first_fault gs ≡ o → first_fault (fs ++ gs) ≡ o
-unfolding then_fault
-no_fault_in_both fs gs o e f = first_of_both fs gs ∙ ap (λ p. then_fault p (first_fault gs)) e ∙ f
+no_fault_in_both fs gs o e f = grind (arith, first_of_both fs gs)
 
 pub fault_in_first : (fs gs : List Finding) (path : List ℕ) → first_fault fs ≡ Some path → first_fault (fs ++ gs) ≡ Some path
-unfolding then_fault
-fault_in_first fs gs path e = first_of_both fs gs ∙ ap (λ p. then_fault p (first_fault gs)) e
+fault_in_first fs gs path e = grind (arith, first_of_both fs gs)
 
 pub patterns_of_both : (fs gs : List Finding) → first_fault fs ≡ None → patterns_before (fs ++ gs) ≡ patterns_before fs ++ patterns_before gs
-unfolding then_patterns
-patterns_of_both fs gs e = before_both fs gs ∙ ap (λ p. then_patterns p (patterns_before fs) (patterns_before gs)) e
+patterns_of_both [] gs e = refl
+patterns_of_both (Fault path ∷ fs) gs e = absurd (cc)
+patterns_of_both (Pattern path text ∷ fs) gs e = grind (arith, patterns_of_both fs gs e)
 
 pub patterns_of_first : (fs gs : List Finding) (path : List ℕ) → first_fault fs ≡ Some path → patterns_before (fs ++ gs) ≡ patterns_before fs
-unfolding then_patterns
-patterns_of_first fs gs path e = before_both fs gs ∙ ap (λ p. then_patterns p (patterns_before fs) (patterns_before gs)) e
+patterns_of_first [] gs path e = absurd (cc)
+patterns_of_first (Fault other ∷ fs) gs path e = refl
+patterns_of_first (Pattern other text ∷ fs) gs path e = grind (arith, patterns_of_first fs gs path e)
 
 -- ---- results
 

@@ -1,10 +1,7 @@
 -- Matchers and rules that are read: what is read states what is there, a refusal is that of the first fault, and the patterns that are met are
 -- those before it.
-use Rattle.std.proofs.Common.{◌≡◌, ℕ, Bool, true, false, if◌then◌else◌, List, [], ◌∷◌, ◌++◌, length, map, Option, Some, None, refl, sym, ap, ◌∙◌, append_assoc, codes}
-use Rattle.std.specs.Prelude.{option_and_then, unwrap_or, ◌==◌}
-use Rattle.std.specs.List.{flat_map, filter}
+use Rattle.std.proofs.Common.{◌≡◌, ℕ, true, false, if◌then◌else◌, List, [], ◌∷◌, ◌++◌, length, map, Option, Some, None, refl, sym, ap, ◌∙◌, append_assoc, codes, option_and_then, unwrap_or, ◌==◌, flat_map, filter, append-nil}
 use Rattle.std.specs.Option.{option_map_or}
-use Rattle.std.proofs.lemmas.List.{append-nil}
 use Rattle.serde_json.specs.Data.{Data, Items, Members, no_members, member}
 use Rattle.serde_json.specs.Find.{as_object}
 use Rattle.amr_labels.specs.Labels.{Text}
@@ -44,11 +41,11 @@ value_matcher operator name value = record { name = name; operator = operator; v
 
 walk_matcher : (operator : Operator) (path : List ℕ) (name value : Text) → Judged (matcher_at operator path name value) (if length name == 0 then Fault path ∷ [] else patterns_found path (value_matcher operator name value ∷ [])) (λ more. more ≡ value_matcher operator name value ∷ [])
 unfolding matcher_at
-walk_matcher operator path name value = go (length name == 0)
-  where
-    go : (b : Bool) → Judged (if b then faulty path else matchers_met path (value_matcher operator name value ∷ [])) (if b then Fault path ∷ [] else patterns_found path (value_matcher operator name value ∷ [])) (λ more. more ≡ value_matcher operator name value ∷ [])
-    go true = judged_fault path _
-    go false = walk_met path (value_matcher operator name value ∷ [])
+walk_matcher operator path name value =
+    elim (length name == 0) as (λ b. Judged (if b then faulty path else matchers_met path (value_matcher operator name value ∷ [])) (if b then Fault path ∷ [] else patterns_found path (value_matcher operator name value ∷ [])) (λ more. more ≡ value_matcher operator name value ∷ [])) [
+      | true ↦ judged_fault path _
+      | false ↦ walk_met path (value_matcher operator name value ∷ [])
+    ]
 
 -- what a member adds, if it is present
 abbrev AddsMatcher : Operator → Text → Option Data → List Matcher → List Matcher → Type 0
@@ -64,41 +61,35 @@ walk_value operator path name d matchers =
 
 walk_member : (operator : Operator) (path : List ℕ) (name : Text) (d : Data) (matchers : List Matcher) → Judged (matcher_into operator path name d matchers) (if_there (value_found operator name (under path name)) (unless_null (Some d))) (AddsMatcher operator name (unless_null (Some d)) matchers)
 unfolding matcher_into
-walk_member operator path name d matchers = go (unless_null (Some d))
-  where
-    go : (o : Option Data) → Judged (if_present (stated_into operator (under path name) name) o matchers) (if_there (value_found operator name (under path name)) o) (AddsMatcher operator name o matchers)
-    go None = judged_ok matchers _ refl
-    go (Some v) = walk_value operator (under path name) name v matchers
-
-abbrev AddsMatchers : Operator → Members → List Matcher → List Matcher → Type 0
-AddsMatchers operator ms before after = (more : List Matcher) × (after ≡ before ++ more) × MatchersOf operator ms more
-
-abbrev MatcherFirst : Operator → Text → Option Data → Members → List Matcher → Type 0
-MatcherFirst operator name o ms matchers = (later : List Matcher) × MatcherOf operator name o matchers later × MatchersOf operator ms later
-
-adds_matchers : (operator : Operator) (name : Text) (d : Data) (ms : Members) (before one after : List Matcher) → AddsMatcher operator name (unless_null (Some d)) before one → AddsMatchers operator ms one after → AddsMatchers operator (member name d ms) before after
-adds_matchers operator name d ms before one after first (later, adds, of) = go (unless_null (Some d)) first
-  where
-    go : (o : Option Data) → AddsMatcher operator name o before one → (more : List Matcher) × (after ≡ before ++ more) × MatcherFirst operator name o ms more
-    go None same = (later, adds ∙ ap (λ l. l ++ later) same, (later, refl, of))
-    go (Some v) (value, is, same) =
-        (value_matcher operator name value ∷ later, adds ∙ ap (λ l. l ++ later) same ∙ append_assoc before (value_matcher operator name value ∷ []) later, (later, (value, is, refl), of))
-
-walk_members : (operator : Operator) (path : List ℕ) (ms : Members) (matchers : List Matcher) → Judged (members_in_turn (matcher_into operator path) ms matchers) (values_found operator path ms) (AddsMatchers operator ms matchers)
-walk_members operator path no_members matchers = judged_ok matchers _ ([], sym (append-nil matchers), refl)
-walk_members operator path (member name d ms) matchers =
-    judged_then (matcher_into operator path name d matchers) (members_in_turn (matcher_into operator path) ms) _ (values_found operator path ms) _ (AddsMatchers operator (member name d ms) matchers) (walk_member operator path name d matchers) (λ one first.
-    judged_as (members_in_turn (matcher_into operator path) ms one) (values_found operator path ms) (AddsMatchers operator ms one) _ (walk_members operator path ms one) (λ after rest. adds_matchers operator name d ms matchers one after first rest))
+walk_member operator path name d matchers =
+    elim (unless_null (Some d)) as (λ o. Judged (if_present (stated_into operator (under path name) name) o matchers) (if_there (value_found operator name (under path name)) o) (AddsMatcher operator name o matchers)) [
+      | None ↦ judged_ok matchers _ refl
+      | Some v ↦ walk_value operator (under path name) name v matchers
+    ]
 
 -- matchers after those before them
 abbrev AddsThose : (List Matcher → Type 0) → List Matcher → List Matcher → Type 0
 AddsThose Are before after = (more : List Matcher) × (after ≡ before ++ more) × Are more
 
+adds_matchers : (operator : Operator) (name : Text) (d : Data) (ms : Members) (before one after : List Matcher) → AddsMatcher operator name (unless_null (Some d)) before one → AddsThose (MatchersOf operator ms) one after → AddsThose (MatchersOf operator (member name d ms)) before after
+adds_matchers operator name d ms before one after first (later, adds, of) = go (unless_null (Some d)) first
+  where
+    go : (o : Option Data) → AddsMatcher operator name o before one → AddsThose (λ more. (later : List Matcher) × MatcherOf operator name o more later × MatchersOf operator ms later) before after
+    go None same = (later, adds ∙ ap (λ l. l ++ later) same, (later, refl, of))
+    go (Some v) (value, is, same) =
+        (value_matcher operator name value ∷ later, adds ∙ ap (λ l. l ++ later) same ∙ append_assoc before (value_matcher operator name value ∷ []) later, (later, (value, is, refl), of))
+
+walk_members : (operator : Operator) (path : List ℕ) (ms : Members) (matchers : List Matcher) → Judged (members_in_turn (matcher_into operator path) ms matchers) (values_found operator path ms) (AddsThose (MatchersOf operator ms) matchers)
+walk_members operator path no_members matchers = judged_ok matchers _ ([], sym (append-nil matchers), refl)
+walk_members operator path (member name d ms) matchers =
+    judged_then (matcher_into operator path name d matchers) (members_in_turn (matcher_into operator path) ms) _ (values_found operator path ms) _ (AddsThose (MatchersOf operator (member name d ms)) matchers) (walk_member operator path name d matchers) (λ one first.
+    judged_as (members_in_turn (matcher_into operator path) ms one) (values_found operator path ms) (AddsThose (MatchersOf operator ms) one) _ (walk_members operator path ms one) (λ after rest. adds_matchers operator name d ms matchers one after first rest))
+
 walk_object : (operator : Operator) (path : List ℕ) (d : Data) (matchers : List Matcher) → Judged (members_into operator path d matchers) (match_object_found operator path d) (AddsThose (IsMatchObject operator d) matchers)
 unfolding members_into
 walk_object operator path d matchers =
     judged_there path (as_object d) _ (members_found operator path) _ refl (λ ms is.
-    judged_as (members_in_turn (matcher_into operator path) ms matchers) (values_found operator path ms) (AddsMatchers operator ms matchers) _ (walk_members operator path ms matchers) (λ after (more, adds, of). (more, adds, (ms, is, of))))
+    judged_as (members_in_turn (matcher_into operator path) ms matchers) (values_found operator path ms) (AddsThose (MatchersOf operator ms) matchers) _ (walk_members operator path ms matchers) (λ after (more, adds, of). (more, adds, (ms, is, of))))
 
 -- a member that may be absent
 walk_under : (reads : Data → List Matcher → Reading (List Matcher)) (found : Data → List Finding) (Are : Data → List Matcher → Type 0) (o : Option Data) (matchers : List Matcher) → ((d : Data) → Judged (reads d matchers) (found d) (AddsThose (Are d) matchers)) → Judged (if_present reads o matchers) (if_there found o) (AddsThose (λ more. (states : Option (List Matcher)) × StatesIf Are o states × (more ≡ unwrap_or states [])) matchers)

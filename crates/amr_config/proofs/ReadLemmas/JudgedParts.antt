@@ -1,12 +1,11 @@
 -- What is read of members without patterns states what is there, and a refusal is that of the first fault.
-use Rattle.std.proofs.Common.{◌≡◌, ℕ, ◌+◌, Bool, true, false, not, ◌||◌, if◌then◌else◌, List, [], ◌∷◌, ◌++◌, map, Option, Some, None, refl, sym, ap, ◌∙◌, codes, ltb→lt}
-use Rattle.std.specs.Prelude.{option_and_then, unwrap_or, nat_lt}
+use Rattle.std.proofs.Common.{◌≡◌, ℕ, ◌+◌, Bool, true, false, not, ◌||◌, if◌then◌else◌, List, [], ◌∷◌, ◌++◌, map, Option, Some, None, refl, sym, ap, ◌∙◌, codes, ltb→lt, option_and_then, unwrap_or, nat_lt, arith}
 use Rattle.std.specs.List.{list_any}
 use Rattle.std.specs.Option.{option_map_or}
 use Rattle.std.specs.Ordering.{eq_by_cmp}
 use Rattle.std.proofs.lemmas.List.{append-nil, map_push}
 use Rattle.serde_json.specs.Data.{Data, Items, no_items, item}
-use Rattle.serde_json.specs.Find.{as_str, as_array}
+use Rattle.serde_json.specs.Find.{as_array}
 use Rattle.amr_labels.specs.Labels.{Text, text_cmp}
 use Rattle.amr_time.specs.IntervalTexts.{time_at, end_time_at}
 use Rattle.amr_time.specs.SpanRead.{span_of}
@@ -47,8 +46,7 @@ judged_ranges reads =
     judged_list_of (λ path d. or_faulty path (reads d)) (range_found reads) (IsRange reads) (λ path d. judged_or_faulty path (reads d) (IsRange reads d) (λ x is. is))
 
 time_there : (spelled : Text → Option ℕ) (key : Text) (d : Data) (time : ℕ) → HasAt (IsTime spelled) key d time → time_in spelled key d ≡ Some time
-time_there spelled key d time (v, at, (text, is, spells)) =
-    ap (λ o. option_and_then spelled (option_and_then as_str o)) at ∙ ap (λ o. option_and_then spelled o) is ∙ spells
+time_there spelled key d time (v, at, (text, is, spells)) = grind arith
 
 judged_time_range : (path : List ℕ) (d : Data) → Judged (time_range_at path d) (time_range_found path d) (IsTimeRange d)
 unfolding time_range_at
@@ -121,14 +119,10 @@ unfolding interval_into
 judged_interval_into path i d intervals = judged_added (interval_at intervals (item_path path i) d) (interval_found (names_of intervals) (item_path path i) d) (λ i. IsInterval) i d intervals (judged_interval intervals (item_path path i) d)
 
 name_there : (d : Data) (interval : NamedInterval) → IsInterval d interval → name_in d ≡ interval.name ∷ []
-name_there d interval is = go is.name
-  where
-    go : HasAt IsText (codes "name") d interval.name → name_in d ≡ interval.name ∷ []
-    go (v, at, text) = ap (λ o. option_map_or (λ name. name ∷ []) (option_and_then as_str o) []) at ∙ ap (λ o. option_map_or (λ name. name ∷ []) o []) text
+name_there d interval is = let (v, at, text) = is.name in grind arith
 
 names_after : (d : Data) (i : ℕ) (before after : List NamedInterval) → Adds (λ i. IsInterval) i d before after → names_of before ++ name_in d ≡ names_of after
-names_after d i before after (interval, adds, is) =
-    ap (λ l. names_of before ++ l) (name_there d interval is) ∙ sym (map_push (λ (other : NamedInterval). other.name) before interval) ∙ ap names_of (sym adds)
+names_after d i before after (interval, adds, is) = grind (arith, name_there d interval is, map_push (λ (other : NamedInterval). other.name) before interval)
 
 judged_intervals : (path : List ℕ) (i : ℕ) (ds : Items) (intervals : List NamedInterval) → Judged (items_in_turn (interval_into path) i ds intervals) (intervals_found (names_of intervals) path i ds) (AddsEach (λ i. IsInterval) i ds intervals)
 judged_intervals path i no_items intervals = judged_ok intervals _ (adds_none (λ i. IsInterval) i intervals)
@@ -154,19 +148,16 @@ judged_defined key d intervals = judged_as _ _ _ _ (judged_from key (member_of k
 -- the names that a list defines are those of what is read
 names_read : (i : ℕ) (ds : Items) (intervals : List NamedInterval) → StatesEach (λ i. IsInterval) i ds intervals → names_in ds ≡ names_of intervals
 names_read i no_items [] are = refl
-names_read i no_items (interval ∷ intervals) are = absurd are
-names_read i (item d ds) [] are = absurd are
-names_read i (item d ds) (interval ∷ intervals) are =
-    ap (λ l. l ++ names_in ds) (name_there d interval are.0) ∙ ap (λ l. interval.name ∷ l) (names_read (i + 1) ds intervals are.1)
+names_read i (item d ds) (interval ∷ intervals) are = grind (arith, name_there d interval are.0, names_read (i + 1) ds intervals are.1)
+names_read i ds intervals are = absurd are
 
 pub names_under_read : (key : Text) (d : Data) (intervals : List NamedInterval) → StatesOr [] (IsListOf IsInterval) key d intervals → names_under key d ≡ names_of intervals
 names_under_read key d intervals (found, states, is) = go (member_of key d) found states is
   where
     go : (o : Option Data) (found : Option (List NamedInterval)) → StatesIf (IsListOf IsInterval) o found → intervals ≡ unwrap_or found [] → option_map_or names_in (option_and_then as_array o) [] ≡ names_of intervals
     go None None states is = sym (ap names_of is)
-    go None (Some more) states is = absurd states
-    go (Some v) None states is = absurd states
-    go (Some v) (Some more) (ds, at, are) is = ap (λ o. option_map_or names_in o []) at ∙ names_read 0 ds more are ∙ sym (ap names_of is)
+    go (Some v) (Some more) (ds, at, are) is = grind (arith, names_read 0 ds more are)
+    go o found states is = absurd states
 
 -- ---- names at routes
 

@@ -1,14 +1,8 @@
 -- What is read of a receiver states what is there, and a refusal is that of the first fault.
-use Rattle.std.proofs.Common.{◌≡◌, ℕ, zero, suc, ◌+◌, Bool, true, false, not, ◌||◌, if◌then◌else◌, List, [], ◌∷◌, ◌++◌, length, take, drop, Option, Some, None, inl, inr, ◌⊎◌, refl, sym, ap, subst, ◌∙◌, arith, codes}
-use Rattle.std.specs.Prelude.{unwrap_or, is_some, ◌==◌}
-use Rattle.std.specs.List.{Contains}
+use Rattle.std.proofs.Common.{◌≡◌, ℕ, zero, suc, ◌+◌, Bool, true, false, not, ◌||◌, if◌then◌else◌, List, [], ◌∷◌, ◌++◌, length, Option, Some, None, inl, inr, ◌⊎◌, refl, sym, ap, subst, ◌∙◌, arith, codes, unwrap_or, is_some, ◌==◌, Contains, IsPermutation, is_gt}
 use Rattle.std.specs.Option.{option_or, option_map_or}
 use Rattle.std.proofs.lemmas.List.Elements.{Contains-append_left, Contains-append_right, Contains-append_cases}
-use Rattle.std.proofs.lemmas.List.{take-append-drop}
 use Rattle.std.proofs.lemmas.Option.{none-some, same_Some}
-use Rattle.std.specs.Ordering.{match_ordering}
-use Rattle.std.specs.declared.cmp.Ordering.{Ordering}
-use Rattle.std.specs.declared.cmp.Ordering.TheVariants.{Less, Equal, Greater}
 use Rattle.serde_json.specs.Data.{Data, null, Items, no_items, item, Members, no_members, member}
 use Rattle.serde_json.specs.Find.{as_array, as_object, get_item}
 use Rattle.amr_labels.specs.Labels.{Text, text_cmp, text_cmp-IsAntisymmetric}
@@ -16,10 +10,10 @@ use Rattle.amr_config.specs.declared.stated.receiver.Integration.{Integration}
 use Rattle.amr_config.specs.Read.Paths.{under, item_path}
 use Rattle.amr_config.specs.Read.Members.{unless_null, member_of, or_faulty, flag_at}
 use Rattle.amr_config.specs.Read.Readings.{give, faulty, members_in_turn}
-use Rattle.amr_config.specs.Read.ReadReceivers.{default_of, entry_into, entries_at, is_on_side, kind_key, stated_entries, with_entries, index_after, entries_under, kind_into, kinds_at, name_at, receiver_at, receiver_into, receivers_list, receivers_at}
+use Rattle.amr_config.specs.Read.ReadReceivers.{default_of, entry_into, entries_at, is_on_side, kind_key, stated_entries, with_entries, entries_under, kind_into, kinds_at, name_at, receiver_at, receiver_into, receivers_list, receivers_at}
 use Rattle.amr_config.specs.Read.Table.{IsText, IsFlag, IsListOf, StatesEach, StatesIf, StatesOr, HasAt, IsIntegration, AreIntegrations, IsMember, StatesIntegration, IsReceiver}
 use Rattle.amr_config.specs.Read.Faults.{unless_some, unless, flag_found, list_found, if_there, at, entry_found, entries_found, kinds_found, side_found, receiver_name_found, receiver_found}
-use Rattle.amr_config.proofs.ReadLemmas.EntryInsertion.{with_entries_is}
+use Rattle.std.proofs.lemmas.List.Sorted.{IsPermutation-refl, IsPermutation-sym, IsPermutation-cons, IsPermutation-append_comm, Contains-permutation}
 use Rattle.amr_config.proofs.ReadLemmas.Judged.{Judged, by_findings, judged_ok, judged_then, judged_as, judged_map, judged_or_faulty, judged_optional, judged_stated, judged_needed, judged_flag, judged_object, judged_spelled, judged_there, judged_unless, Adds, judged_list, judged_list_of}
 
 -- ---- entries
@@ -48,7 +42,7 @@ judged_entries kind path d = judged_list (entry_into kind path) (entry_found kin
 -- ---- kinds
 
 -- the entries of a member that may be null
-abbrev HasEntries : Text → Data → List Integration → Type 0
+abbrev pub HasEntries : Text → Data → List Integration → Type 0
 HasEntries kind d integrations = (found : Option (List Integration)) × StatesIf (AreIntegrations kind) (unless_null (Some d)) found × (integrations ≡ unwrap_or found [])
 
 judged_stated_entries : (kind : Text) (path : List ℕ) (d : Data) → Judged (stated_entries kind path d) (if_there (list_found (entry_found kind) path) (unless_null (Some d))) (HasEntries kind d)
@@ -56,44 +50,44 @@ unfolding stated_entries
 judged_stated_entries kind path d =
     judged_map _ (λ found. unwrap_or found []) _ _ _ (judged_optional (entries_at kind path) (list_found (entry_found kind) path) (AreIntegrations kind) (unless_null (Some d)) (judged_entries kind path)) (λ found states. (found, states, refl))
 
--- what a member on a side does to the integrations
-abbrev KindFrom : Option Text → Data → List Integration → List Integration → Type 0
+-- what a member does to the integrations, if its key names a kind
+abbrev pub KindFrom : Option Text → Data → List Integration → List Integration → Type 0
 KindFrom None d before after = after ≡ before
 KindFrom (Some kind) d before after = (entries : List Integration) × HasEntries kind d entries × (after ≡ with_entries before kind entries)
 
-abbrev KindIf : Bool → Text → Data → List Integration → List Integration → Type 0
-KindIf true key d before after = KindFrom (kind_key key) d before after
-KindIf false key d before after = after ≡ before
+-- the kind that a key on this side names
+abbrev pub kind_on : Bool → Text → Option Text
+kind_on side key = if is_on_side side key then kind_key key else None
 
 judged_named : (path : List ℕ) (d : Data) (before : List Integration) (o : Option Text) → Judged (entries_under path d before o) (entries_found path d o) (KindFrom o d before)
 judged_named path d before None = judged_ok before _ refl
 judged_named path d before (Some kind) =
     judged_map (stated_entries kind path d) (λ entries. with_entries before kind entries) _ (HasEntries kind d) (KindFrom (Some kind) d before) (judged_stated_entries kind path d) (λ entries has. (entries, has, refl))
 
-judged_kind : (side : Bool) (path : List ℕ) (key : Text) (d : Data) (before : List Integration) → Judged (kind_into side path key d before) (if is_on_side side key then entries_found (under path key) d (kind_key key) else []) (KindIf (is_on_side side key) key d before)
+judged_kind : (side : Bool) (path : List ℕ) (key : Text) (d : Data) (before : List Integration) → Judged (kind_into side path key d before) (if is_on_side side key then entries_found (under path key) d (kind_key key) else []) (KindFrom (kind_on side key) d before)
 unfolding kind_into
-judged_kind side path key d before = go (is_on_side side key)
-  where
-    go : (b : Bool) → Judged (if b then entries_under (under path key) d before (kind_key key) else give before) (if b then entries_found (under path key) d (kind_key key) else []) (KindIf b key d before)
-    go true = judged_named (under path key) d before (kind_key key)
-    go false = judged_ok before _ refl
+judged_kind side path key d before =
+    elim (is_on_side side key) as (λ b. Judged (if b then entries_under (under path key) d before (kind_key key) else give before) (if b then entries_found (under path key) d (kind_key key) else []) (KindFrom (if b then kind_key key else None) d before)) [
+      | true ↦ judged_named (under path key) d before (kind_key key)
+      | false ↦ judged_ok before _ refl
+    ]
 
 -- what the members on a side do to the integrations, one after another
-abbrev KindsFrom : Bool → Members → List Integration → List Integration → Type 0
+abbrev pub KindsFrom : Bool → Members → List Integration → List Integration → Type 0
 KindsFrom side no_members before after = after ≡ before
-KindsFrom side (member key d ms) before after = (one : List Integration) × KindIf (is_on_side side key) key d before one × KindsFrom side ms one after
+KindsFrom side (member key d ms) before after = (one : List Integration) × KindFrom (kind_on side key) d before one × KindsFrom side ms one after
 
 judged_kinds : (side : Bool) (path : List ℕ) (ms : Members) (before : List Integration) → Judged (members_in_turn (kind_into side path) ms before) (kinds_found side path ms) (KindsFrom side ms before)
 judged_kinds side path no_members before = judged_ok before _ refl
 judged_kinds side path (member key d ms) before =
-    judged_then (kind_into side path key d before) (members_in_turn (kind_into side path) ms) _ (kinds_found side path ms) (KindIf (is_on_side side key) key d before) _ (judged_kind side path key d before) (λ one from.
+    judged_then (kind_into side path key d before) (members_in_turn (kind_into side path) ms) _ (kinds_found side path ms) (KindFrom (kind_on side key) d before) _ (judged_kind side path key d before) (λ one from.
     judged_as (members_in_turn (kind_into side path) ms one) (kinds_found side path ms) (KindsFrom side ms one) _ (judged_kinds side path ms one) (λ after rest. (one, from, rest)))
 
 -- the members on a side of an object
-abbrev SideFrom : Bool → Data → List Integration → List Integration → Type 0
+abbrev pub SideFrom : Bool → Data → List Integration → List Integration → Type 0
 SideFrom side d before after = (ms : Members) × (as_object d ≡ Some ms) × KindsFrom side ms before after
 
-judged_side : (side : Bool) (path : List ℕ) (d : Data) (before : List Integration) → Judged (kinds_at side path d before) (side_found side path (as_object d)) (SideFrom side d before)
+pub judged_side : (side : Bool) (path : List ℕ) (d : Data) (before : List Integration) → Judged (kinds_at side path d before) (side_found side path (as_object d)) (SideFrom side d before)
 unfolding kinds_at
 judged_side side path d before =
     judged_there path (as_object d) _ (side_found side path) _ refl (λ ms is.
@@ -117,79 +111,61 @@ record IsOfMember (ms : Members) (x : Integration) : Type 0 where
   has : HasEntries kind list entries
   within : Contains entries x
 
-in_with : (xs : List Integration) (kind : Text) (entries : List Integration) (x : Integration) → Contains (with_entries xs kind entries) x → Contains xs x ⊎ Contains entries x
-in_with xs kind entries x c =
-    let i = index_after xs kind in
-    let whole = λ (c : Contains (take i xs ++ drop i xs) x). subst (λ l. Contains l x) (take-append-drop i xs) c in
-    elim (Contains-append_cases (take i xs ++ entries) (drop i xs) x (subst (λ l. Contains l x) (with_entries_is xs kind entries) c)) [
-      | inl c ↦ elim (Contains-append_cases (take i xs) entries x c) [ inl early ↦ inl (whole (Contains-append_left (take i xs) (drop i xs) x early)) | inr new ↦ inr new ]
-      | inr late ↦ inl (whole (Contains-append_right (take i xs) (drop i xs) x late))
+moved : (xs : List Integration) (kind : Text) (entries : List Integration) → IsPermutation (xs ++ entries) (with_entries xs kind entries)
+moved [] kind entries = IsPermutation-refl entries
+moved (x ∷ xs) kind entries =
+    elim (is_gt (text_cmp x.kind kind)) as (λ b. IsPermutation (x ∷ xs ++ entries) (if b then entries ++ x ∷ xs else x ∷ with_entries xs kind entries)) [
+      | true ↦ IsPermutation-append_comm (x ∷ xs) entries
+      | false ↦ IsPermutation-cons x (xs ++ entries) (with_entries xs kind entries) (moved xs kind entries)
     ]
 
-kept_with : (xs : List Integration) (kind : Text) (entries : List Integration) (x : Integration) → Contains xs x → Contains (with_entries xs kind entries) x
-kept_with xs kind entries x c =
-    let i = index_after xs kind in
-    subst (λ l. Contains l x) (sym (with_entries_is xs kind entries)) (elim (Contains-append_cases (take i xs) (drop i xs) x (subst (λ l. Contains l x) (sym (take-append-drop i xs)) c)) [
-      | inl early ↦ Contains-append_left (take i xs ++ entries) (drop i xs) x (Contains-append_left (take i xs) entries x early)
-      | inr late ↦ Contains-append_right (take i xs ++ entries) (drop i xs) x late
-    ])
+pub in_with : (xs : List Integration) (kind : Text) (entries : List Integration) (x : Integration) → Contains (with_entries xs kind entries) x → Contains xs x ⊎ Contains entries x
+in_with xs kind entries x c = Contains-append_cases xs entries x (Contains-permutation _ _ x (IsPermutation-sym _ _ (moved xs kind entries)) c)
 
-new_with : (xs : List Integration) (kind : Text) (entries : List Integration) (x : Integration) → Contains entries x → Contains (with_entries xs kind entries) x
-new_with xs kind entries x c =
-    let i = index_after xs kind in
-    subst (λ l. Contains l x) (sym (with_entries_is xs kind entries)) (Contains-append_left (take i xs ++ entries) (drop i xs) x (Contains-append_right (take i xs) entries x c))
+-- of a member that adds entries, or none
+one_only : (whole : Members) (o : Option Text) (key : Text) (d : Data) (before one : List Integration) (x : Integration) → IsMember key d whole → ((kind : Text) → o ≡ Some kind → kind_key key ≡ Some kind) → KindFrom o d before one → Contains one x → Contains before x ⊎ IsOfMember whole x
+one_only whole None key d before one x there names same c = inl (rw same at c)
+one_only whole (Some kind) key d before one x there names (entries, has, from) c =
+    elim (in_with before kind entries x (rw from at c)) [
+      | inl old ↦ inl old
+      | inr new ↦ inr (record { key = key; list = d; kind = kind; entries = entries; is_member = there; names_kind = names kind refl; has = has; within = new })
+    ]
 
-AllOf : Members → List Integration → Type 0
-AllOf whole xs = (x : Integration) → Contains xs x → IsOfMember whole x
+pub on_side : (side : Bool) (key kind : Text) → kind_on side key ≡ Some kind → (is_on_side side key ≡ true) × (kind_key key ≡ Some kind)
+on_side side key kind e = grind arith
 
-one_only : (whole : Members) (b : Bool) (key : Text) (d : Data) (before one : List Integration) → IsMember key d whole → KindIf b key d before one → AllOf whole before → AllOf whole one
-unfolding AllOf
-one_only whole false key d before one there from all = rw from all
-one_only whole true key d before one there from all = go (kind_key key) refl from
-  where
-    go : (o : Option Text) → kind_key key ≡ o → KindFrom o d before one → (x : Integration) → Contains one x → IsOfMember whole x
-    go None is from x c = all x (rw from at c)
-    go (Some kind) is (entries, has, from) x c =
-        elim (in_with before kind entries x (rw from at c)) [
-          | inl old ↦ all x old
-          | inr new ↦ record { key = key; list = d; kind = kind; entries = entries; is_member = there; names_kind = is; has = has; within = new }
-        ]
+kinds_only : (side : Bool) (whole ms : Members) (before after : List Integration) (x : Integration) → ((key : Text) (d : Data) → IsMember key d ms → IsMember key d whole) → KindsFrom side ms before after → Contains after x → Contains before x ⊎ IsOfMember whole x
+kinds_only side whole no_members before after x sub same c = inl (rw same at c)
+kinds_only side whole (member key d ms) before after x sub (one, first, rest) c =
+    elim (kinds_only side whole ms one after x (λ k e is. sub k e (inr is)) rest c) [
+      | inl old ↦ one_only whole (kind_on side key) key d before one x (sub key d (inl (refl, refl))) (λ kind e. (on_side side key kind e).1) first old
+      | inr new ↦ inr new
+    ]
 
-kinds_only : (side : Bool) (whole ms : Members) (before after : List Integration) → ((key : Text) (d : Data) → IsMember key d ms → IsMember key d whole) → KindsFrom side ms before after → AllOf whole before → AllOf whole after
-kinds_only side whole no_members before after sub from all = rw from all
-kinds_only side whole (member key d ms) before after sub (one, first, rest) all =
-    kinds_only side whole ms one after (λ k e is. sub k e (inr is)) rest (one_only whole (is_on_side side key) key d before one (sub key d (inl (refl, refl))) first all)
-
-one_keeps : (b : Bool) (key : Text) (d : Data) (before one : List Integration) (x : Integration) → KindIf b key d before one → Contains before x → Contains one x
-one_keeps false key d before one x from c = rw from c
-one_keeps true key d before one x from c = go (kind_key key) from
-  where
-    go : (o : Option Text) → KindFrom o d before one → Contains one x
-    go None from = rw from c
-    go (Some kind) (entries, has, from) = rw from (kept_with before kind entries x c)
+one_keeps : (o : Option Text) (d : Data) (before one : List Integration) (x : Integration) → KindFrom o d before one → Contains before x → Contains one x
+one_keeps None d before one x same c = rw same c
+one_keeps (Some kind) d before one x (entries, has, from) c =
+    rw from (Contains-permutation _ _ x (moved before kind entries) (Contains-append_left before entries x c))
 
 kinds_keep : (side : Bool) (ms : Members) (before after : List Integration) (x : Integration) → KindsFrom side ms before after → Contains before x → Contains after x
-kinds_keep side no_members before after x from c = rw from c
-kinds_keep side (member key d ms) before after x (one, first, rest) c = kinds_keep side ms one after x rest (one_keeps (is_on_side side key) key d before one x first c)
+kinds_keep side no_members before after x same c = rw same c
+kinds_keep side (member key d ms) before after x (one, first, rest) c = kinds_keep side ms one after x rest (one_keeps (kind_on side key) d before one x first c)
 
 -- the entries of this kind
 abbrev HasKind : Text → Data → List Integration → Type 0
 HasKind kind d xs = (entries : List Integration) × HasEntries kind d entries × ((x : Integration) → Contains entries x → Contains xs x)
 
-named_brings : (d : Data) (before one : List Integration) (kind : Text) → KindFrom (Some kind) d before one → HasKind kind d one
-named_brings d before one kind (entries, has, adds) = (entries, has, λ x c. rw adds (new_with before kind entries x c))
+one_brings : (o : Option Text) (d : Data) (before one : List Integration) (kind : Text) → o ≡ Some kind → KindFrom o d before one → HasKind kind d one
+one_brings None d before one kind is from = cc
+one_brings (Some other) d before one kind is (entries, has, from) =
+    let same : other ≡ kind = cc in
+    (entries, rw same at has, λ x c. rw from (Contains-permutation _ _ x (moved before other entries) (Contains-append_right before entries x c)))
 
-one_brings : (b : Bool) (key : Text) (d : Data) (before one : List Integration) (name : Text) → b ≡ true → kind_key key ≡ Some name → KindIf b key d before one → HasKind name d one
-one_brings false key d before one name side is from = cc
-one_brings true key d before one name side is from = named_brings d before one name (subst (λ o. KindFrom o d before one) is from)
-
-kinds_all : (side : Bool) (ms : Members) (before after : List Integration) (key : Text) (d : Data) (name : Text) → IsMember key d ms → is_on_side side key ≡ true → kind_key key ≡ Some name → KindsFrom side ms before after → HasKind name d after
-kinds_all side no_members before after key d name there on is from = absurd there
-kinds_all side (member k e ms) before after key d name (inr there) on is (one, first, rest) = kinds_all side ms one after key d name there on is rest
-kinds_all side (member k e ms) before after key d name (inl (same_key, same_list)) on is (one, first, rest) =
-    let here = subst (λ (l : Text). KindIf (is_on_side side l) l e before one) same_key first in
-    let found = subst (λ (v : Data). HasKind name v one) same_list (one_brings (is_on_side side key) key e before one name on is here) in
-    let (entries, has, within) = found in
+kinds_all : (side : Bool) (ms : Members) (before after : List Integration) (key : Text) (d : Data) (kind : Text) → IsMember key d ms → kind_on side key ≡ Some kind → KindsFrom side ms before after → HasKind kind d after
+kinds_all side no_members before after key d kind there is from = absurd there
+kinds_all side (member k e ms) before after key d kind (inr there) is (one, first, rest) = kinds_all side ms one after key d kind there is rest
+kinds_all side (member k e ms) before after key d kind (inl (same_key, same_list)) is (one, first, rest) =
+    let (entries, has, within) = subst (λ (v : Data). HasKind kind v one) same_list (one_brings (kind_on side k) e before one kind (ap (kind_on side) same_key ∙ is) first) in
     (entries, has, λ x c. kinds_keep side ms one after x rest (within x c))
 
 -- ---- the entries of a list
@@ -219,7 +195,7 @@ of_entry kind i (item d ds) (y ∷ ys) (suc n) e are at =
 
 -- ---- a receiver
 
-entries_there : (kind : Text) (v : Data) (xs : List Integration) → StatesIf (AreIntegrations kind) (unless_null (Some v)) (Some xs) → AreIntegrations kind v xs
+pub entries_there : (kind : Text) (v : Data) (xs : List Integration) → StatesIf (AreIntegrations kind) (unless_null (Some v)) (Some xs) → AreIntegrations kind v xs
 entries_there kind null xs h = absurd h
 entries_there kind v xs h = h
 
@@ -254,11 +230,8 @@ stated_by d ms x is_object is = go is.has is.within
 
 same_said : (o : Option Data) (a b : Option Bool) → StatesIf IsFlag o a → StatesIf IsFlag o b → a ≡ b
 same_said None None None h k = refl
-same_said None (Some x) b h k = absurd h
-same_said None None (Some y) h k = absurd k
-same_said (Some v) None b h k = absurd h
-same_said (Some v) (Some x) None h k = absurd k
 same_said (Some v) (Some x) (Some y) h k = sym h ∙ k
+same_said o a b h k = grind arith
 
 same_entry : (kind : Text) (i : ℕ) (e : Data) (x y : Integration) → IsIntegration kind i e x → IsIntegration kind i e y → x ≡ y
 same_entry kind i e x y h k =
@@ -278,43 +251,29 @@ found_by all x list ds e is_list at entry (entries, (Some xs, states, same), wit
     let alike : y ≡ x = same_entry x.kind x.place e y x (rw place at stated) entry in
     within x (rw (same, ← alike) c)
 
-not_the_name : (key name : Text) → kind_key key ≡ Some name → key ≡ codes "name" → ⊥
-unfolding kind_key
-not_the_name key name is same =
-    let none : kind_key (codes "name") ≡ Some name = rw same at is in
-    none-some name none
-
-on_a_side : (key name : Text) → kind_key key ≡ Some name → (is_on_side true key ≡ true) ⊎ (is_on_side false key ≡ true)
-unfolding is_on_side
-on_a_side key name is = go (text_cmp key (codes "name")) refl
-  where
-    go : (o : Ordering) → text_cmp key (codes "name") ≡ o → (match_ordering o true false (not true) ≡ true) ⊎ (match_ordering o false false (not false) ≡ true)
-    go Less e = inl refl
-    go Equal e = absurd (not_the_name key name is (text_cmp-IsAntisymmetric key (codes "name") e))
-    go Greater e = inr refl
-
-none_of : (whole : Members) → AllOf whole []
-unfolding AllOf
-none_of whole x (n, lt, is) = absurd (omega (arith, lt))
+on_a_side : (key kind : Text) → kind_key key ≡ Some kind → (kind_on true key ≡ Some kind) ⊎ (kind_on false key ≡ Some kind)
+unfolding is_on_side kind_key
+on_a_side key kind is = grind (arith, text_cmp-IsAntisymmetric key (codes "name"))
 
 read_receiver : (d : Data) (name : Text) (first all : List Integration) → SideFrom true d [] first → HasAt IsText (codes "name") d name → SideFrom false d first all → IsReceiver d (record { name = name; integrations = all })
-unfolding AllOf
 read_receiver d name first all (ms, is_object, before) has (other, also, after) =
-    let same : other ≡ ms = same_Some other ms (sym also ∙ is_object) in
+    let same : other ≡ ms = cc in
     let later : KindsFrom false ms first all = rw same at after in
-    let of_members : (x : Integration) → Contains all x → IsOfMember ms x = kinds_only false ms ms first all (λ key v is. is) later (kinds_only true ms ms [] first (λ key v is. is) before (none_of ms)) in
     record {
       name = has;
-      only = λ x c. stated_by d ms x is_object (of_members x c);
+      only = λ x c. elim (kinds_only false ms ms first all x (λ key v is. is) later c) [
+        | inl old ↦ elim (kinds_only true ms ms [] first x (λ key v is. is) before old) [ inl none ↦ absurd (omega (arith, none.1)) | inr is ↦ stated_by d ms x is_object is ]
+        | inr is ↦ stated_by d ms x is_object is
+      ];
       all = λ x stated.
-          let at : stated.members ≡ ms = same_Some stated.members ms (sym stated.object ∙ is_object) in
+          let at : stated.members ≡ ms = cc in
           let there : IsMember stated.key stated.list ms = rw at at stated.is_member in
           let found : HasKind x.kind stated.list all =
           elim (on_a_side stated.key x.kind stated.names_kind) [
             | inl side ↦
-                let (entries, of, within) = kinds_all true ms [] first stated.key stated.list x.kind there side stated.names_kind before in
+                let (entries, of, within) = kinds_all true ms [] first stated.key stated.list x.kind there side before in
                 (entries, of, λ y c. kinds_keep false ms first all y later (within y c))
-            | inr side ↦ kinds_all false ms first all stated.key stated.list x.kind there side stated.names_kind later
+            | inr side ↦ kinds_all false ms first all stated.key stated.list x.kind there side later
           ] in
           found_by all x stated.list stated.entries stated.entry stated.is_list stated.at_place stated.is_entry found;
     }

@@ -1,9 +1,7 @@
 -- What is read of the routes, and of a whole configuration, states what is there, and a refusal is that of the first fault.
-use Rattle.std.proofs.Common.{◌≡◌, ℕ, zero, suc, ◌+◌, false, true≢false, List, [], ◌∷◌, ◌++◌, length, Option, Some, None, Ok, refl, sym, ap, subst, ◌∙◌, append_assoc, length-append, codes}
-use Rattle.std.specs.Prelude.{unwrap_or}
+use Rattle.std.proofs.Common.{◌≡◌, ℕ, zero, suc, ◌+◌, false, true≢false, List, [], ◌∷◌, ◌++◌, length, Option, Some, None, Ok, refl, sym, ap, subst, ◌∙◌, append_assoc, length-append, codes, unwrap_or, append-nil}
 use Rattle.std.specs.Option.{option_map_or}
 use Rattle.std.proofs.lemmas.Bool.{or_parts}
-use Rattle.std.proofs.lemmas.List.{append-nil}
 use Rattle.serde_json.specs.Data.{Data, Items, no_items, item}
 use Rattle.serde_json.specs.Find.{as_array}
 use Rattle.amr_labels.specs.Labels.{Text}
@@ -132,9 +130,6 @@ walk_below whole left path parent d own judges shallow = go (member_of (codes "r
     go (Some v) shallow = list v (as_array v) refl shallow
 
 -- the members of a route, one after another
-flattened : (object a b c d e match m r i rest : List Finding) → (object ++ (a ++ (b ++ (c ++ (d ++ (e ++ (match ++ (m ++ (r ++ i))))))))) ++ rest ≡ object ++ (a ++ (b ++ (c ++ (d ++ (e ++ (match ++ (m ++ (r ++ (i ++ rest)))))))))
-flattened object a b c d e match m r i rest = simp append_assoc refl
-
 route_grows : (whole : Data) (parent : Option ℕ) (d : Data) (routes own after : List Route) → AddsRoute whole parent d routes own → AddsBelow whole (length routes) (member_of (codes "routes") d) own after → AddsTree whole parent d routes after
 route_grows whole parent d routes own after (route, adds, of, is) (children, found, states, same, trees, rest, are) =
     let long : length own ≡ length routes + 1 = ap length adds ∙ length-append routes (route ∷ []) in
@@ -142,18 +137,7 @@ route_grows whole parent d routes own after (route, adds, of, is) (children, fou
 
 found_in_order : (whole : Data) (left : ℕ) (path : List ℕ) (d : Data) → own_found whole path d ++ at (list_found (route_found whole left)) path (codes "routes") d ≡ route_found whole (suc left) path d
 unfolding own_found route_found
-found_in_order whole left path d =
-    flattened (object_found path d)
-    (at (list_found (defined_name_found whole)) path (codes "active_time_intervals") d)
-    (at flag_found path (codes "continue") d)
-    (at (list_found text_found) path (codes "group_by") d)
-    (at (spelled_found span_of) path (codes "group_interval") d)
-    (at (spelled_found span_of) path (codes "group_wait") d)
-    (match_found (codes "match") (codes "match_re") (codes "matchers") path d)
-    (at (list_found (defined_name_found whole)) path (codes "mute_time_intervals") d)
-    (at text_found path (codes "receiver") d)
-    (at (spelled_found span_of) path (codes "repeat_interval") d)
-    (at (list_found (route_found whole left)) path (codes "routes") d)
+found_in_order whole left path d = simp append_assoc
 
 walk_route : (whole : Data) (left : ℕ) → JudgesTree whole left
 unfolding add_route is_deeper

@@ -1,6 +1,5 @@
 -- A pattern of a text is among those that the walk meets there.
-use Rattle.std.proofs.Common.{◌≡◌, ℕ, Bool, true, false, cond, List, [], ◌∷◌, ◌++◌, map, refl, inr, arith}
-use Rattle.std.specs.List.{Contains, filter}
+use Rattle.std.proofs.Common.{◌≡◌, ℕ, Bool, true, false, cond, List, [], ◌∷◌, ◌++◌, map, refl, inr, arith, Contains, filter}
 use Rattle.std.proofs.lemmas.List.Elements.{Contains-append_right}
 use Rattle.amr_labels.specs.Matcher.Matchers.{Matcher, takes_pattern}
 use Rattle.amr_labels.specs.Matcher.MatcherRefusals.{OneMayBeRefused}

@@ -1,8 +1,6 @@
 -- A walk goes as its parts go.
-use Rattle.std.proofs.Common.{◌≡◌, ℕ, List, Option, Some, None, is_some, Result, Ok, Err, true, false, inl, inr, refl, ap, ◌∙◌}
+use Rattle.std.proofs.Common.{◌≡◌, ℕ, List, Option, Some, None, is_some, Result, Ok, Err, true, inl, inr, refl, ap, ◌∙◌, unwrap_or, IsErrAnd}
 use Rattle.std.proofs.lemmas.List.Elements.{Contains-append_left, Contains-append_right}
-use Rattle.std.specs.Prelude.{unwrap_or}
-use Rattle.std.specs.Result.{IsErrAnd}
 use Rattle.serde_json.specs.Data.{Data, Members}
 use Rattle.serde_json.specs.Find.{as_object}
 use Rattle.amr_config.specs.declared.read.error.ConfigError.{ConfigError}
@@ -11,10 +9,6 @@ use Rattle.amr_config.specs.Read.Members.{members_at}
 use Rattle.amr_config.specs.Read.Readings.{Reading, give, next, patterns_after, value_after, MayGive}
 use Rattle.amr_config.specs.Read.Answers.{IsFault, Fails, Stops, Reads, ReadsInto}
 use Rattle.amr_config.proofs.ReadLemmas.Failing.{fails_at}
-
-is_none_from : {A : Type 0} (o : Option A) → is_some o ≡ false → o ≡ None
-is_none_from None e = refl
-is_none_from (Some x) e = cc
 
 some_from : {A : Type 0} (o : Option A) → is_some o ≡ true → (x : A) × (o ≡ Some x)
 some_from None e = cc
@@ -64,9 +58,6 @@ read_on part rest a read = ap (λ v. value_after v rest) read
 -- an object that isn't there
 pub no_members : (e : ConfigError) (path : List ℕ) (d : Data) → as_object d ≡ None → IsFault e path → Fails e (members_at path d)
 no_members e path d none h = rw none (fails_at _ e path h)
-
-pub no_object : (e : ConfigError) (path : List ℕ) (d : Data) → is_some (as_object d) ≡ false → IsFault e path → Fails e (members_at path d)
-no_object e path d none h = no_members e path d (is_none_from (as_object d) none) h
 
 -- an object that is there, and whose members aren't asked as one
 pub object_there : {B : Type 0} (path : List ℕ) (d : Data) (rest : Reading B) → is_some (as_object d) ≡ true → next (members_at path d) (λ (whole : Members). rest) ≡ rest

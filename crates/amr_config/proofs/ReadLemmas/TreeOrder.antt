@@ -1,9 +1,7 @@
 -- The routes that are parsed are in preorder.
-use Rattle.std.proofs.Math.Nat.{eq-or-lt_of_le}
-use Rattle.std.proofs.Common.{◌≡◌, inl, inr, ℕ, zero, suc, ◌+◌, ◌<◌, ◌≤◌, List, [], ◌∷◌, ◌++◌, length, Option, Some, None, Ok, codes, refl, sym, ap, ◌∙◌, arith, append_assoc}
+use Rattle.std.proofs.Common.{◌≡◌, inl, inr, ℕ, zero, suc, ◌+◌, ◌<◌, ◌≤◌, List, [], ◌∷◌, ◌++◌, length, Option, Some, None, Ok, codes, refl, sym, ap, ◌∙◌, arith, append_assoc, eq-or-lt_of_le, slice_get}
 use Rattle.std.specs.Option.{option_map_or}
-use Rattle.std.specs.List.{slice_get}
-use Rattle.std.proofs.lemmas.Option.{none-some, same_Some}
+use Rattle.std.proofs.lemmas.Option.{none-some, same_Some, slice_get_past}
 use Rattle.std.proofs.lemmas.List.{length_push, append-nil}
 use Rattle.serde_json.specs.Data.{Data, Items, no_items, item}
 use Rattle.amr_config.specs.declared.stated.route.Route.{Route}
@@ -30,22 +28,17 @@ pub data IsAbove (routes : List Route) : ℕ → ℕ → Type 0 where
 abbrev pub IsLinked : List Route → Type 0
 IsLinked routes = (n : ℕ) → suc n < length routes → (parent : ℕ) × (parent_at routes (suc n) ≡ Some parent) × IsAbove routes n parent
 
-get_further : (routes more : List Route) (n : ℕ) → n < length routes → slice_get (routes ++ more) n ≡ slice_get routes n
-get_further [] more n lt = absurd (omega (arith, lt))
-get_further (r ∷ routes) more zero lt = refl
-get_further (r ∷ routes) more (suc n) lt = get_further routes more n (omega (arith, lt))
-
-get_last : (routes : List Route) (route : Route) → slice_get (routes ++ route ∷ []) (length routes) ≡ Some route
-get_last [] route = refl
-get_last (r ∷ routes) route = get_last routes route
-
 parent_further : (routes more : List Route) (n : ℕ) → n < length routes → parent_at (routes ++ more) n ≡ parent_at routes n
-parent_further routes more n lt = ap (λ o. option_map_or (λ (route : Route). route.parent) o None) (get_further routes more n lt)
+parent_further [] more n lt = absurd (omega (arith, lt))
+parent_further (r ∷ routes) more zero lt = refl
+parent_further (r ∷ routes) more (suc n) lt = parent_further routes more n (omega (arith, lt))
+
+parent_last : (routes : List Route) (route : Route) → parent_at (routes ++ route ∷ []) (length routes) ≡ route.parent
+parent_last [] route = refl
+parent_last (r ∷ routes) route = parent_last routes route
 
 pub parent_within : (routes : List Route) (n parent : ℕ) → parent_at routes n ≡ Some parent → n < length routes
-parent_within [] n parent e = absurd (none-some parent e)
-parent_within (r ∷ routes) zero parent e = omega arith
-parent_within (r ∷ routes) (suc n) parent e = omega (arith, parent_within routes n parent e)
+parent_within routes n parent e = grind (arith, slice_get_past routes n)
 
 above_further : (routes more : List Route) (n above : ℕ) → IsAbove routes n above → IsAbove (routes ++ more) n above
 above_further routes more _ _ (Itself n) = Itself n
@@ -71,11 +64,10 @@ record Adds (routes after : List Route) (parent : Option ℕ) : Type 0 where
 
 linked_push : (routes : List Route) (route : Route) → MayFollow routes route.parent → IsLinked (routes ++ route ∷ [])
 linked_push routes route may n lt =
-    let long = length_push routes route in
-    let le : suc n ≤ length routes = omega (arith, lt, long) in
+    let le : suc n ≤ length routes = omega (arith, lt, length_push routes route) in
     elim (eq-or-lt_of_le le) [
       | inl last ↦ let (p, is, up) = may.follows n last in
-          (p, ap (λ m. parent_at (routes ++ route ∷ []) m) last ∙ ap (λ o. option_map_or (λ (r : Route). r.parent) o None) (get_last routes route) ∙ is, above_further routes (route ∷ []) n p up)
+          (p, rw last (parent_last routes route ∙ is), above_further routes (route ∷ []) n p up)
       | inr before ↦ let (p, is, up) = may.linked n before in
           (p, parent_further routes (route ∷ []) (suc n) before ∙ is, above_further routes (route ∷ []) n p up)
     ]
@@ -120,12 +112,11 @@ items_add whole left path top adds i (item d ds) routes after e o =
 
 own_opens : (routes : List Route) (route : Route) (after : List Route) → after ≡ routes ++ route ∷ [] → MayFollow routes route.parent → Open after (length routes)
 own_opens routes route after is may =
-    let long = length_push routes route in
     rw is (record {
       linked = linked_push routes route may;
-      within = omega (arith, long);
+      within = omega (arith, length_push routes route);
       under = λ last e.
-          let same : last ≡ length routes = omega (arith, e, long) in
+          let same : last ≡ length routes = omega (arith, e, length_push routes route) in
           rw same (Itself (length routes));
     })
 
@@ -141,14 +132,11 @@ route_adds whole (suc left) path parent d routes after e may =
     let own = own_adds whole path parent d routes a.0 a.1 in
     let opened = own_opens routes own.0 a.0 own.1 (rw own.2 may) in
     let rest = items_add whole left path (length routes) (route_adds whole left) 0 b.0 a.0 after b.2 opened in
-    let within : length routes < length a.0 = opened.within in
-    let first : parent_at a.0 (length routes) ≡ parent =
-    ap (λ rs. parent_at rs (length routes)) own.1 ∙ ap (λ o. option_map_or (λ (r : Route). r.parent) o None) (get_last routes own.0) ∙ own.2 in
     record {
       grown = grown_twice routes a.0 after (own.0 ∷ [], own.1) rest.grown;
-      longer = omega (arith, within, rest.longer);
+      longer = omega (arith, opened.within, rest.longer);
       linked = rest.still.linked;
-      has = kept_parent a.0 after (length routes) within rest.grown ∙ first;
+      has = kept_parent a.0 after (length routes) opened.within rest.grown ∙ rw own.1 (parent_last routes own.0 ∙ own.2);
       under = rest.still.under;
     }
 
@@ -181,8 +169,7 @@ above_within : (routes : List Route) (n above : ℕ) → IsAbove routes n above 
 above_within routes _ _ (Itself n) first = omega arith
 above_within routes _ _ (Further n parent above e up) first =
     let less = first n parent (omega arith) e in
-    let le = above_within routes parent above up (λ m p h. first m p (omega (arith, h, less))) in
-    omega (arith, less, le)
+    omega (arith, less, above_within routes parent above up (λ m p h. first m p (omega (arith, h, less))))
 
 parent_before : (routes : List Route) → IsTree routes → (most n parent : ℕ) → n < most → parent_at routes n ≡ Some parent → parent < n
 parent_before routes tree zero n parent lt e = omega (arith, lt)

@@ -1,7 +1,6 @@
 -- A loop over items or members that may meet patterns goes as the walk goes.
-use Rattle.std.proofs.Common.{◌≡◌, ℕ, ◌+◌, ◌<◌, ◌≤◌, List, ◌∷◌, length, drop, get_or, Ok, sym, ap, ◌∙◌, String, string_bytes}
-use Rattle.std.specs.declared.alloc.Global.{Global}
-use Rattle.std.proofs.lemmas.List.{at_drop_more, at_drop_all}
+use Rattle.std.proofs.Common.{◌≡◌, ℕ, ◌+◌, ◌<◌, List, ◌∷◌, length, drop, get_or, Ok, sym, ap, ◌∙◌, String, string_bytes, Global}
+use Rattle.std.proofs.lemmas.List.{at_drop_more}
 use Rattle.serde_json.specs.Data.{Data}
 use Rattle.serde_json.specs.View.{view, items_view, members_view}
 use Rattle.serde_json.specs.declared.value.Value.{Value}
@@ -41,9 +40,6 @@ item_ends f vs i v a b whole lt is read ends =
 pub item_stops : {A : Type 0} (f : ℕ → Data → A → Reading A) (vs : List Value) (i : ℕ) (v : Value) (a : A) (e : ConfigError) (whole : Reading A) → i < length vs → v ≡ get_or vs i v → Stops e (MayGive (f i (view v) a)) → Ends (items_in_turn f i (items_view (drop i vs)) a) whole → Stops e (MayGive whole)
 item_stops f vs i v a e whole lt is h ends =
     ends.stops e (rw (one_item f vs i v a lt is) (stops_first e (f i (view v) a) (items_in_turn f (i + 1) (items_view (drop (i + 1) vs))) h))
-
-pub item_done : {A : Type 0} (f : ℕ → Data → A → Reading A) (vs : List Value) (i : ℕ) (a : A) (whole : Reading A) → length vs ≤ i → Ends (items_in_turn f i (items_view (drop i vs)) a) whole → whole.value ≡ Ok a
-item_done f vs i a whole le ends = ends.reads a (ap (λ (w : Reading _). w.value) (at_drop_all (λ ws. items_in_turn f i (items_view ws) a) vs i le))
 
 -- the entries of an object that are left, the first of them the entry of k
 pub member_ends : {A : Type 0} (f : List ℕ → Data → A → Reading A) (rest more : List (String Global × Value)) (k : String Global) (v : Value) (a b : A) (whole : Reading A) → rest ≡ (k, v) ∷ more → (f (string_bytes k) (view v) a).value ≡ Ok b → Ends (members_in_turn f (members_view rest) a) whole → Ends (members_in_turn f (members_view more) b) whole

@@ -1,19 +1,15 @@
 -- What is true of every configuration that was read.
-use Rattle.std.proofs.Common.{◌≡◌, ℕ, zero, suc, ◌+◌, ◌<◌, Bool, true, false, true≢false, List, [], ◌∷◌, length, Option, Some, None, Ok, refl, sym, ◌∙◌, arith}
+use Rattle.std.proofs.Common.{◌≡◌, ℕ, zero, suc, ◌<◌, Bool, true, false, true≢false, List, [], ◌∷◌, length, Option, Some, None, Ok, refl, sym, ◌∙◌, arith}
 use Rattle.std.specs.List.{Contains, list_any, slice_get}
-use Rattle.std.specs.Prelude.{not, ◌||◌, ◌==◌, if◌then◌else◌}
 use Rattle.std.specs.Option.{option_map_or, is_none}
-use Rattle.std.proofs.lemmas.Bool.{not-false, or_parts}
+use Rattle.std.proofs.lemmas.List.Folds.{list_any_at}
 use Rattle.std.proofs.lemmas.List.Elements.{Contains-append_right}
 use Rattle.amr_labels.specs.Labels.{Text}
-use Rattle.amr_config.specs.declared.stated.receiver.Receiver.{Receiver}
 use Rattle.amr_config.specs.declared.stated.route.Route.{Route}
 use Rattle.amr_config.specs.Read.Keys.{HasOrderedKeys}
 use Rattle.amr_config.proofs.ReadLemmas.Integrations.{walked_in_order}
 use Rattle.serde_json.specs.Data.{Data}
 use Rattle.amr_config.specs.declared.read.error.Refusal.{Refusal}
-use Rattle.amr_config.specs.declared.read.error.Refusal.TheVariants.{Other}
-use Rattle.amr_config.specs.declared.read.error.Cause.TheVariants.{UnknownReceiver, DuplicateReceiver, RootRoute, ZeroInterval, BadGroupBy}
 use Rattle.amr_config.specs.declared.stated.stated.Stated.{Stated}
 use Rattle.amr_config.specs.Read.Readings.{plain, next}
 use Rattle.amr_config.specs.Read.RouteParts.{is_too_deep}
@@ -23,13 +19,13 @@ use Rattle.amr_config.specs.Stated.Config.{Config}
 use Rattle.amr_config.specs.Routing.{parent_of, line_of}
 use Rattle.amr_config.specs.Settled.{stated_config, AreParentsFirst}
 use Rattle.amr_config.specs.Read.Shape.{IsPreorder, IsConfig, stated_receiver, is_receiver}
-use Rattle.amr_config.specs.Read.Judging.{refusal_of, is_lost, is_known, are_named_apart, root_is_bad, is_bad_root, has_intervals, has_zero, is_badly_grouped}
+use Rattle.amr_config.specs.Read.Judging.{refusal_of, is_lost, is_known, are_named_apart, root_is_bad, is_bad_root}
 use Rattle.amr_config.specs.Read.Reading.{unless_refused, reading_of, config_of}
 use Rattle.amr_config.specs.Read.ReadLaws.{RoutesAreInPreorder, ReadConfigsAreWhole}
 use Rattle.amr_config.proofs.Lines.{line_of-root, line_of-child}
 use Rattle.amr_config.proofs.ReadLemmas.NameSets.{named_apart}
 use Rattle.amr_config.proofs.ReadLemmas.TreeOrder.{IsAbove, Itself, Further, IsTree, walked_tree, parent_within, parents_first}
-use Rattle.std.proofs.lemmas.Option.{same_Some, none-some}
+use Rattle.std.proofs.lemmas.Option.{same_Some, get_or_from_slice_get, slice_get_past}
 
 -- what was parsed for a configuration, and was validated
 pub record WasJudged (d : Data) (config : Config) : Type 0 where
@@ -67,14 +63,9 @@ above_in_line config first _ _ (Itself n) = in_line config first n
 above_in_line config first _ _ (Further n parent above e up) =
     rw (line_of-child config first n parent e) (Contains-append_right (n ∷ []) (line_of config parent) above (above_in_line config first parent above up))
 
-same_parent : (config : Config) (n parent : ℕ) → parent_of config (n + 1) ≡ Some parent → parent_of config (suc n) ≡ Some parent
-same_parent config n parent e =
-    let same : n + 1 ≡ suc n = omega arith in
-    rw same at e
-
 preorder : (config : Config) → AreParentsFirst config → IsTree config.routes → IsPreorder config
 preorder config first tree n parent e =
-    let e' = same_parent config n parent e in
+    let e' : parent_of config (suc n) ≡ Some parent = grind arith in
     let (p, is, up) = tree.linked n (parent_within config.routes (suc n) parent e') in
     let same : p ≡ parent = same_Some p parent (sym is ∙ e') in
     rw (← same) (above_in_line config first n p up)
@@ -93,42 +84,22 @@ record IsGood (stated : Stated) : Type 0 where
   apart : are_named_apart stated.receivers ≡ true
   root : root_is_bad stated.routes ≡ false
 
-good_from : (a b c d e : Bool) → (if a then Some (Other UnknownReceiver) else (if b then Some (Other DuplicateReceiver) else (if c then Some (Other RootRoute) else (if d then Some (Other ZeroInterval) else (if e then Some (Other BadGroupBy) else None))))) ≡ None → (a ≡ false) × (b ≡ false) × (c ≡ false)
-good_from true b c d e h = cc
-good_from false true c d e h = cc
-good_from false false true d e h = cc
-good_from false false false d e h = (refl, refl, refl)
-
 good : (stated : Stated) → refusal_of stated ≡ None → IsGood stated
 unfolding refusal_of
-good stated h =
-    let (lost, apart, root) = good_from (list_any (is_lost stated.receivers) stated.routes) (not (are_named_apart stated.receivers)) (root_is_bad stated.routes) (list_any has_zero stated.routes) (list_any is_badly_grouped stated.routes) h in
-    record { none_lost = lost; apart = not-false (are_named_apart stated.receivers) apart; root = root }
+good stated h = record { none_lost = grind arith; apart = grind arith; root = grind arith }
 
 none_of : {X : Type 0} (p : X → Bool) (xs : List X) (n : ℕ) (x : X) → list_any p xs ≡ false → slice_get xs n ≡ Some x → p x ≡ false
-none_of p [] n x none at = absurd (none-some x at)
-none_of p (y ∷ ys) zero x none at = rw (← same_Some y x at) (or_parts (p y) (list_any p ys) none).0
-none_of p (y ∷ ys) (suc n) x none at = none_of p ys n x (or_parts (p y) (list_any p ys) none).1 at
+none_of p xs n x none at = grind (arith, list_any_at p xs n x, get_or_from_slice_get xs n x x, slice_get_past xs n)
 
 -- ---- receivers
 
-known : (receivers : List Receiver) (route : Route) (name : Text) → is_lost receivers route ≡ false → route.receiver ≡ Some name → is_known receivers name ≡ true
-unfolding is_lost
-known receivers route name found states =
-    not-false (is_known receivers name) (rw states at found)
-
-stated_at : (routes : List Route) (n : ℕ) (name : Text) → option_map_or (λ (route : Route). route.receiver) (slice_get routes n) None ≡ Some name → (route : Route) × (slice_get routes n ≡ Some route) × (route.receiver ≡ Some name)
-stated_at routes n name states = go (slice_get routes n) refl states
-  where
-    go : (o : Option Route) → slice_get routes n ≡ o → option_map_or (λ (route : Route). route.receiver) o None ≡ Some name → (route : Route) × (slice_get routes n ≡ Some route) × (route.receiver ≡ Some name)
-    go None at states = absurd (none-some name states)
-    go (Some route) at states = (route, at, states)
-
 all_known : (stated : Stated) → IsGood stated → (n : ℕ) (name : Text) → stated_receiver (stated_config stated) n ≡ Some name → is_receiver (stated_config stated) name ≡ true
-unfolding is_known
-all_known stated is n name states =
-    let (route, at, names) = stated_at stated.routes n name states in
-    known stated.receivers route name (none_of (is_lost stated.receivers) stated.routes n route is.none_lost at) names
+unfolding is_known is_lost
+all_known stated is n name states = go (slice_get stated.routes n) refl states
+  where
+    go : (o : Option Route) → slice_get stated.routes n ≡ o → option_map_or (λ (route : Route). route.receiver) o None ≡ Some name → is_receiver (stated_config stated) name ≡ true
+    go None at states = absurd (cc)
+    go (Some route) at states = grind (arith, none_of (is_lost stated.receivers) stated.routes n route is.none_lost at)
 
 -- ---- the root
 
@@ -138,11 +109,8 @@ not_none (Some x) e = (x, refl)
 
 root_names : (routes : List Route) → root_is_bad routes ≡ false → (name : Text) × (option_map_or (λ (route : Route). route.receiver) (slice_get routes 0) None ≡ Some name)
 unfolding is_bad_root
-root_names [] e = absurd (true≢false e)
-root_names (root ∷ routes) e =
-    let any = or_parts _ (has_intervals root) e in
-    let none = or_parts (not (length root.matchers == 0) || root.continues) (is_none root.receiver) any.0 in
-    not_none root.receiver none.1
+root_names [] e = absurd (cc)
+root_names (root ∷ routes) e = not_none root.receiver (grind arith)
 
 -- ---- parents
 

@@ -1,5 +1,4 @@
-use Rattle.std.proofs.Common.{◌≡◌, drop}
-use Rattle.std.specs.List.{find}
+use Rattle.std.proofs.Common.{◌≡◌, drop, find}
 use Rattle.std.specs.Ordering.{eq_by_cmp}
 use Rattle.amr_labels.specs.Labels.{text_cmp}
 use Rattle.amr_config.specs.declared.stated.receiver.Receiver.{Receiver}

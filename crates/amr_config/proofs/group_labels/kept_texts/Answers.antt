@@ -1,7 +1,4 @@
-use Rattle.std.proofs.Common.{◌≤◌, length, ap, subst, ◌∙◌}
-use Rattle.std.specs.List.{filter}
-use Rattle.std.specs.Option.{option_copied}
-use Rattle.std.proofs.lemmas.List.{take_all}
+use Rattle.std.proofs.Common.{◌≤◌, length, ap, subst, ◌∙◌, filter, option_copied, take_all}
 use Rattle.amr_labels.specs.Labels.{Text}
 use Rattle.amr_config.specs.Groups.{keeps}
 use Rattle.amr_config.proofs.Kept.{entries_kept}

@@ -1,6 +1,4 @@
-use Rattle.std.proofs.Common.{◌≡◌, take}
-use Rattle.std.specs.List.{filter}
-use Rattle.std.specs.Option.{option_copied}
+use Rattle.std.proofs.Common.{◌≡◌, take, filter, option_copied}
 use Rattle.amr_labels.specs.Lent.{lent_texts}
 use Rattle.amr_labels.specs.Map.{entries}
 use Rattle.amr_config.specs.Groups.{keeps}

@@ -1,5 +1,4 @@
-use Rattle.std.proofs.Common.{◌≡◌, ◌+◌, ◌++◌, ◌∷◌, [], ap, sym, ◌∙◌}
-use Rattle.std.proofs.lemmas.List.{append-nil}
+use Rattle.std.proofs.Common.{◌≡◌, ◌+◌, ◌++◌, ◌∷◌, [], ap, sym, ◌∙◌, append-nil}
 use Rattle.amr_config.specs.Standings.{chosen_numbers}
 use Rattle.amr_config.proofs.Chosen.{chosen_more}
 use Rattle.amr_config.proofs.PassingOver.{chosen_to_next}

@@ -1,5 +1,4 @@
-use Rattle.std.proofs.Common.{◌≡◌, take}
-use Rattle.std.specs.Prelude.{◌||◌}
+use Rattle.std.proofs.Common.{◌≡◌, take, ◌||◌}
 use Rattle.amr_labels.specs.Labels.{Text}
 use Rattle.amr_config.specs.RuleNames.{is_among, is_named}
 use Rattle.amr_config.proofs.rule_names.add_names.Given as goal

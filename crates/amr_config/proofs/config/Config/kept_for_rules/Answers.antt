@@ -1,5 +1,4 @@
-use Rattle.std.proofs.Common.{◌≡◌, Some, sym, ap, subst, ◌∙◌}
-use Rattle.std.specs.Prelude.{IfSome}
+use Rattle.std.proofs.Common.{◌≡◌, Some, sym, ap, subst, ◌∙◌, IfSome}
 use Rattle.amr_config.specs.Stated.Config.{Config}
 use Rattle.amr_config.specs.declared.config.Parts.{Parts}
 use Rattle.amr_config.specs.RuleNames.{AreNamesOf, kept_for}

@@ -6,6 +6,3 @@ pub returns-clause-found : goal.returns-clause-found
 returns-clause-found c =
     rw (← c.self.view_is) (settings_found (config_of_parts c.self.inside.shared.value) c.as_slice.result.now c.args.route c.get.result
     (rw (c.as_slice.ensures, c.deref.ensures) c.self.invariant.settings) c.get.ensures.lookup)
-
-pub returns-clause-parents : goal.returns-clause-parents
-returns-clause-parents c = rw (← c.self.view_is) c.self.invariant.parents

@@ -4,27 +4,10 @@ use Rattle.amr_config.specs.Read.Readings.{next}
 use Rattle.amr_config.proofs.ReadLemmas.Readings.{stops_first, stops_later, stops_past, stops_plain, stopped}
 use Rattle.amr_config.proofs.read.read.walk.Goals as goal
 
-pub returns-in_err-resolve_timeout : goal.returns-in_err-resolve_timeout
-unfolding walked_at
-returns-in_err-resolve_timeout c =
-    stopped _ _ _ _ c.from_residual.ensures.1 (stops_first _ _ _ (stops_plain _ _ c.in_err-resolve_timeout.ensures))
-
 pub returns-in_err-rules : goal.returns-in_err-rules
 unfolding walked_at
 returns-in_err-rules c =
     stopped _ _ _ _ c.from_residual-in_err-rules.ensures.1 (stops_past _ _ _ _ c.in_ok-resolve_timeout.ensures (stops_first _ _ _ c.in_err-rules.ensures))
-
-pub returns-in_err-mute : goal.returns-in_err-mute
-unfolding walked_at
-returns-in_err-mute c =
-    stopped _ _ _ _ c.from_residual-in_err-mute.ensures.1 (stops_past _ _ _ _ c.in_ok-resolve_timeout.ensures (stops_later _ _ _ _ c.in_ok-rules.ensures
-    (stops_first _ _ _ (stops_plain _ _ c.in_err-mute.ensures))))
-
-pub returns-in_err-receivers : goal.returns-in_err-receivers
-unfolding walked_at
-returns-in_err-receivers c =
-    stopped _ _ _ _ c.from_residual-in_err-receivers.ensures.1 (stops_past _ _ _ _ c.in_ok-resolve_timeout.ensures (stops_later _ _ _ _ c.in_ok-rules.ensures
-    (stops_past _ _ _ _ c.in_ok-mute.ensures (stops_first _ _ _ (stops_plain _ _ c.in_err-receivers.ensures)))))
 
 pub returns-in_err-routes : goal.returns-in_err-routes
 unfolding walked_at

@@ -5,18 +5,6 @@ use Rattle.amr_config.proofs.ReadLemmas.Failing.{fails_first, fails_later, faile
 use Rattle.amr_config.proofs.ReadLemmas.Readings.{object_there, fails_past_object}
 use Rattle.amr_config.proofs.read.read_intervals.interval_member.Goals as goal
 
-pub returns-in_err-days_of_month : goal.returns-in_err-days_of_month
-unfolding interval_member_at
-returns-in_err-days_of_month c =
-    failed _ _ _ _ c.from_residual.ensures.1 (fails_past_object _ _ _ _ (sym c.is_object.ensures ∙ c.if-not-is_object.false)
-    (fails_first _ _ _ c.in_err-days_of_month.ensures))
-
-pub returns-in_err-_location : goal.returns-in_err-_location
-unfolding interval_member_at
-returns-in_err-_location c =
-    failed _ _ _ _ c.from_residual-in_err-_location.ensures.1 (fails_past_object _ _ _ _ (sym c.is_object.ensures ∙ c.if-not-is_object.false)
-    (fails_later _ _ _ _ c.in_ok-days_of_month.ensures (fails_first _ _ _ c.in_err-_location.ensures)))
-
 pub returns-in_err-months : goal.returns-in_err-months
 unfolding interval_member_at
 returns-in_err-months c =

@@ -1,20 +1,10 @@
-use Rattle.std.proofs.Common.{rules, sym}
 use Rattle.std.proofs.lemmas.Map.Iter.{rest_more}
 use Rattle.std.specs.Map.Iter.{deref_pair}
 use Rattle.amr_config.specs.Read.Paths.{path_text}
-use Rattle.amr_config.specs.Read.ReadMatchers.{matcher_into, members_into}
-use Rattle.amr_config.proofs.ReadLemmas.Readings.{stops_first, stops_plain, no_members, stopped_into}
-use Rattle.amr_config.proofs.ReadLemmas.Turns.{ends_past, ends_itself, member_ends, member_stops}
+use Rattle.amr_config.specs.Read.ReadMatchers.{matcher_into}
+use Rattle.amr_config.proofs.ReadLemmas.Readings.{stopped_into}
+use Rattle.amr_config.proofs.ReadLemmas.Turns.{member_ends, member_stops}
 use Rattle.amr_config.proofs.read.read_matchers.add_members.Goals as goal
-
-pub returns-in_default : goal.returns-in_default
-unfolding members_into
-returns-in_default c =
-    stops_first _ _ _ (stops_plain _ _ (no_members _ _ _ (sym c.in_default.ensures) c.faulty.ensures))
-
-pub loop-key-init : goal.loop-key-init
-unfolding members_into
-loop-key-init c = ends_past _ _ _ _ (search rules) (ends_itself _)
 
 pub loop-key-preserved : goal.loop-key-preserved
 loop-key-preserved c =

@@ -1,5 +1,4 @@
-use Rattle.std.proofs.Common.{◌≡◌, ◌-◌, List, ℕ, true, false, Option, Some, None, length, take, refl, sym, option_map, Bor, arith, ◌≤◌, ◌++◌, codes}
-use Rattle.std.specs.Prelude.{MatchOption}
+use Rattle.std.proofs.Common.{◌≡◌, ◌-◌, List, ℕ, true, false, Option, Some, None, length, take, refl, sym, option_map, Bor, arith, ◌≤◌, ◌++◌, codes, MatchOption}
 use Rattle.std.specs.Str.Pattern.{FindsTextSuffix, StripsSuffix}
 use Rattle.std.proofs.lemmas.Str.Pattern.{ends_text}
 use Rattle.amr_config.specs.Read.ReadReceivers.{kind_key}

@@ -3,7 +3,7 @@ use Rattle.serde_json.specs.View.{view, items_view}
 use Rattle.amr_config.specs.Read.Paths.{path_text}
 use Rattle.amr_config.specs.Read.ReadRoutes.{child_into}
 use Rattle.amr_config.proofs.ReadLemmas.Levels.{at_zero, own_stops, children_stop, begins}
-use Rattle.amr_config.proofs.ReadLemmas.Turns.{item_ends, item_stops, item_done}
+use Rattle.amr_config.proofs.ReadLemmas.Turns.{item_ends, item_stops}
 use Rattle.amr_config.proofs.ReadLemmas.Readings.{stopped_into}
 use Rattle.amr_config.proofs.read.read_routes.+add_route.Goals as goal
 
@@ -30,7 +30,3 @@ loop-i-preserved t c =
 pub returns-in_err-add_route : goal.returns-in_err-add_route
 returns-in_err-add_route t c =
     stopped_into _ _ _ _ _ c.from_residual-in_err-add_route.ensures.1 (item_stops (child_into (view c.args.whole.now.value.now) (c.args.left - 1) (path_text c.args.path.now) c.len-index.result) c.in_ok-children.children.now c.loop-i.i c.index-children-i.result c.loop-i.routes c.in_err-add_route.field-0.0 _ c.loop-i-test.true c.index-children-i.is c.in_err-add_route.ensures c.loop-i.invariant)
-
-pub returns : goal.returns
-returns t c =
-    item_done (child_into (view c.args.whole.now.value.now) (c.args.left - 1) (path_text c.args.path.now) c.len-index.result) c.in_ok-children.children.now c.loop-i.i c.loop-i.routes _ c.loop-i-test.false c.loop-i.invariant

@@ -1,43 +1,8 @@
 use Rattle.std.proofs.Common.{refl, sym, ◌∙◌}
 use Rattle.amr_config.specs.Read.Readings.{next}
 use Rattle.amr_config.specs.Read.ReadRoutes.{route_at}
-use Rattle.amr_config.proofs.ReadLemmas.Readings.{read_past_object, stops_first, stops_later, stops_past, stops_plain, no_object, past_object, stopped}
+use Rattle.amr_config.proofs.ReadLemmas.Readings.{read_past_object, stops_first, stops_later, stops_past, stops_plain, past_object, stopped}
 use Rattle.amr_config.proofs.read.read_routes.read_route.Goals as goal
-
-pub returns-then-not-is_object : goal.returns-then-not-is_object
-unfolding route_at
-returns-then-not-is_object c =
-    stops_first _ _ _ (stops_plain _ _ (no_object _ _ _ (sym c.is_object.ensures ∙ c.if-not-is_object.true) c.faulty.ensures))
-
-pub returns-in_err-active : goal.returns-in_err-active
-unfolding route_at
-returns-in_err-active c =
-    stopped _ _ _ _ c.from_residual.ensures.1 (past_object _ _ _ _ (sym c.is_object.ensures ∙ c.if-not-is_object.false)
-    (stops_first _ _ _ (stops_plain _ _ c.in_err-active.ensures)))
-
-pub returns-in_err-continues : goal.returns-in_err-continues
-unfolding route_at
-returns-in_err-continues c =
-    stopped _ _ _ _ c.from_residual-in_err-continues.ensures.1 (past_object _ _ _ _ (sym c.is_object.ensures ∙ c.if-not-is_object.false)
-    (stops_past _ _ _ _ c.in_ok-active.ensures (stops_first _ _ _ (stops_plain _ _ c.in_err-continues.ensures))))
-
-pub returns-in_err-group_by : goal.returns-in_err-group_by
-unfolding route_at
-returns-in_err-group_by c =
-    stopped _ _ _ _ c.from_residual-in_err-group_by.ensures.1 (past_object _ _ _ _ (sym c.is_object.ensures ∙ c.if-not-is_object.false)
-    (stops_past _ _ _ _ c.in_ok-active.ensures (stops_past _ _ _ _ c.in_ok-continues.ensures (stops_first _ _ _ (stops_plain _ _ c.in_err-group_by.ensures)))))
-
-pub returns-in_err-group_interval : goal.returns-in_err-group_interval
-unfolding route_at
-returns-in_err-group_interval c =
-    stopped _ _ _ _ c.from_residual-in_err-group_interval.ensures.1 (past_object _ _ _ _ (sym c.is_object.ensures ∙ c.if-not-is_object.false)
-    (stops_past _ _ _ _ c.in_ok-active.ensures (stops_past _ _ _ _ c.in_ok-continues.ensures (stops_past _ _ _ _ c.in_ok-group_by.ensures (stops_first _ _ _ (stops_plain _ _ c.in_err-group_interval.ensures))))))
-
-pub returns-in_err-group_wait : goal.returns-in_err-group_wait
-unfolding route_at
-returns-in_err-group_wait c =
-    stopped _ _ _ _ c.from_residual-in_err-group_wait.ensures.1 (past_object _ _ _ _ (sym c.is_object.ensures ∙ c.if-not-is_object.false)
-    (stops_past _ _ _ _ c.in_ok-active.ensures (stops_past _ _ _ _ c.in_ok-continues.ensures (stops_past _ _ _ _ c.in_ok-group_by.ensures (stops_past _ _ _ _ c.in_ok-group_interval.ensures (stops_first _ _ _ (stops_plain _ _ c.in_err-group_wait.ensures)))))))
 
 pub returns-in_err-matchers : goal.returns-in_err-matchers
 unfolding route_at

@@ -1,5 +1,4 @@
-use Rattle.std.proofs.Common.{◌≡◌, drop}
-use Rattle.std.specs.Prelude.{◌||◌}
+use Rattle.std.proofs.Common.{◌≡◌, drop, ◌||◌}
 use Rattle.std.specs.BTreeSet.{contains}
 use Rattle.serde_json.specs.View.{items_view}
 use Rattle.amr_labels.specs.Labels.{Text, text_cmp}

@@ -1,5 +1,4 @@
-use Rattle.std.proofs.Common.{subst, sym}
-use Rattle.std.specs.List.{All}
+use Rattle.std.proofs.Common.{subst, sym, All}
 use Rattle.std.proofs.lemmas.List.Elements.{All-nil}
 use Rattle.amr_labels.specs.Labels.{LabelSet}
 use Rattle.amr_config.specs.Stated.RuleMatches.{rule_matches}
