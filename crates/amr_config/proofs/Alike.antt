@@ -86,10 +86,7 @@ same_cached a b alike labels =
 
 -- ---- tests of two parts
 
-pub second_decides : {P Q R : Type 0} (s : Bool) → P → Decides s Q → (P → Q → R) → (R → Q) → Decides s R
-second_decides s first second make part = (λ yes. make first (second.0 yes), λ r. second.1 (part r))
-
-pub first_fails : {P R : Type 0} (v r : Bool) → Decides r P → (R → P) → r ≡ false → v ≡ false → Decides v R
+first_fails : {P R : Type 0} (v r : Bool) → Decides r P → (R → P) → r ≡ false → v ≡ false → Decides v R
 first_fails v r first part fails is = (λ yes. absurd (cc), λ r. absurd (false≢true (sym fails ∙ first.1 (part r))))
 
 -- ---- lists whose elements are alike, one by one

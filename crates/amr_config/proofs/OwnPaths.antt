@@ -220,9 +220,10 @@ module _ (config : Config) where
     are_own own e alone = record {
       each = λ n within.
           let there : n < limit = omega (arith, within, e) in
-          let known = alone.each n (omega (arith, there, are.all)) in
-          (λ is other less same. known.0 is other (omega (arith, less, e, are.all)) (same_first n other there (omega (arith, less, e)) same),
-           λ only. known.1 (λ other less same. only other (omega (arith, less, are.all, e)) (same_path n other there (omega (arith, less, are.all)) same)));
+          let known = alone.each n (omega (arith, there, are.all)) in (
+            λ is other less same. known.0 is other (omega (arith, less, e, are.all)) (same_first n other there (omega (arith, less, e)) same),
+            λ only. known.1 (λ other less same. only other (omega (arith, less, are.all, e)) (same_path n other there (omega (arith, less, are.all)) same)),
+          );
       all = alone.all ∙ are.all ∙ e;
     }
 

@@ -111,6 +111,7 @@ impl Config {
     }
 
     /// Returns the settings of a route, or `None` if there is no such route.
+    #[tactic(auto, using(crate::proofs::Inherited::settings_found))]
     fn settings_at(&self, route: usize) -> Option<&Settings>
         ensures found { MatchOption result (length self.now.routes ≤ route)
             (λ found. (route < length self.now.routes) × (found.now ≡ settings_of self.now route)) }

@@ -20,6 +20,7 @@ impl Config {
 }
 
 /// Returns whether each route is like the other one at its index.
+#[tactic(auto, using(crate::proofs::Alike::unlike_at))]
 fn are_routes_alike(routes: &[Route], others: &[Route]) -> bool
     ensures { Decides result (map routing_part routes.now ≡ map routing_part others.now) }
 {
@@ -51,6 +52,7 @@ fn is_parent_alike(route: &Route, other: &Route) -> bool
 }
 
 /// Returns whether two routes have the same matchers, and state the same grouping.
+#[tactic(auto, using(crate::proofs::Alike::matchers_decide))]
 fn takes_alike(route: &Route, other: &Route) -> bool
     ensures { Decides result ((route.now.matchers ≡ other.now.matchers)
         × (route.now.group_by ≡ other.now.group_by)) }
@@ -81,6 +83,7 @@ fn groups_alike(grouping: &Grouping, other: &Grouping) -> bool
 }
 
 /// Returns whether two groupings have the same names of labels.
+#[tactic(auto, using(crate::proofs::Alike::names_decide))]
 fn are_names_alike(names: &Names, others: &Names) -> bool
     ensures { Decides result (names.now ≡ others.now) }
 {
@@ -88,6 +91,7 @@ fn are_names_alike(names: &Names, others: &Names) -> bool
 }
 
 /// Returns whether each rule is like the other one at its index.
+#[tactic(auto, using(crate::proofs::Alike::unlike_at))]
 fn are_rules_alike(rules: &[InhibitRule], others: &[InhibitRule]) -> bool
     ensures { Decides result (map sides rules.now ≡ map sides others.now) }
 {
@@ -103,6 +107,7 @@ fn are_rules_alike(rules: &[InhibitRule], others: &[InhibitRule]) -> bool
 }
 
 /// Returns whether two rules have the same matchers.
+#[tactic(auto, using(crate::proofs::Alike::matchers_decide))]
 fn is_rule_alike(rule: &InhibitRule, other: &InhibitRule) -> bool
     ensures { Decides result (sides rule.now ≡ sides other.now) }
 {

@@ -110,6 +110,7 @@ impl Router {
     }
 
     /// Returns what is cached of a label set with this number.
+    #[tactic(auto, using(crate::proofs::Cached::routing_found))]
     fn cached(&self, number: Option<usize>, labels: &Labels) -> Option<&CachedRouting>
         ensures { IfSome result (λ cached. cached.now ≡ routing_to_cache self.now labels.now) }
     {

@@ -66,6 +66,7 @@ fn add_names(names: &mut Vec<Text>, matchers: &[Matcher]) -> Result<bool, AllocE
 }
 
 /// Adds a name, unless it is among the names.
+#[tactic(auto, using(crate::proofs::RuleNames::among_already))]
 fn add_name(names: &mut Vec<Text>, name: &Text) -> Result<(), AllocError>
     ensures { OnOk result ((other : _) → is_among names.new.items other
         ≡ (is_among names.old.items other || eq_by_cmp text_cmp other name.now)) }

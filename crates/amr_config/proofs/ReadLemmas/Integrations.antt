@@ -125,10 +125,13 @@ kind_order side key d ms before one None on same below order past = rw same (ord
 kind_order side key d ms before one (Some kind) on (entries, has, from) below order past =
     let placed = has_placed kind d entries has in
     let (there, names) = on_side side key kind on in
-    rw from (order_with before kind entries order placed (λ x c. past_apart side key d ms x kind (past x c) on), λ x c. elim (in_with before kind entries x c) [
-      | inl old ↦ past_one side key d ms x (past x old)
-      | inr new ↦ record { key = key; names_kind = names ∙ ap (λ n. Some n) (sym (placed_kind kind 0 entries x placed new)); past = inl (there, below) }
-    ])
+    rw from (
+      order_with before kind entries order placed (λ x c. past_apart side key d ms x kind (past x c) on),
+      λ x c. elim (in_with before kind entries x c) [
+        | inl old ↦ past_one side key d ms x (past x old)
+        | inr new ↦ record { key = key; names_kind = names ∙ ap (λ n. Some n) (sym (placed_kind kind 0 entries x placed new)); past = inl (there, below) }
+      ],
+    )
 
 kinds_order : (side : Bool) (ms : Members) (before after : List Integration) → KindsFrom side ms before after → AreInOrder ms → are_in_order before ≡ true → ArePast side ms before → (are_in_order after ≡ true) × ArePast side no_members after
 kinds_order side no_members before after same below order past = rw same (order, past)

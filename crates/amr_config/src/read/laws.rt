@@ -16,17 +16,20 @@ pub fn integrations_are_in_order()
 
 /// Says that a configuration is refused with `TooDeep` exactly if a route is at level 33 or deeper.
 /// The root is at level 1, and the routes below a route are one level deeper.
+#[tactic(auto, using(crate::proofs::ReadLemmas::Refused::deep_is_refused))]
 pub fn too_deep_is_refused()
     ensures { DeepIsRefused }
 {}
 
 /// Says the same of every answer that `load_config` may give, whichever patterns `regex` refuses.
+#[tactic(auto, using(crate::proofs::ReadLemmas::Refused::deep_is_answered))]
 pub fn too_deep_is_answered()
     ensures { DeepIsAnswered }
 {}
 
 /// Says that the routes of a configuration are in preorder: the parent of each but the root is the
 /// route just before it, or a route above that one.
+#[tactic(auto, using(crate::proofs::ReadLemmas::WholeConfigs::routes_are_in_preorder))]
 pub fn routes_are_in_preorder()
     ensures { RoutesAreInPreorder }
 {}
@@ -48,6 +51,7 @@ pub fn what_is_read_is_stated()
 /// of its first faulty value, walking through members by key in byte order and through lists in
 /// order. If no value is faulty, the configuration is validated. Instead of either, the answer may
 /// be a pattern before the first faulty value, if `regex` refuses it.
+#[tactic(auto, using(crate::proofs::ReadLemmas::Answered::answers_go_by_the_first_fault))]
 pub fn answers_go_by_the_first_fault()
     ensures { AnswersGoByTheFirstFault }
 {}

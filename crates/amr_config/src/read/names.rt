@@ -9,6 +9,7 @@ use std::alloc::{AllocError, Global};
 use std::collections::BTreeSet;
 
 /// Returns whether all names differ.
+#[tactic(auto, using(crate::proofs::ReadLemmas::NameSets::repeated, crate::proofs::ReadLemmas::NameSets::still_apart, crate::proofs::ReadLemmas::NameSets::one_before))]
 pub(crate) fn are_apart(alloc: Global, names: &[Text]) -> Result<bool, AllocError>
     ensures { IfOk result (λ apart. apart ≡ are_different names.now) }
 {
@@ -22,6 +23,7 @@ pub(crate) fn are_apart(alloc: Global, names: &[Text]) -> Result<bool, AllocErro
 }
 
 /// Returns the set of the names.
+#[tactic(auto, using(crate::proofs::ReadLemmas::NameSets::one_after))]
 pub(crate) fn set_of(alloc: Global, names: &[Text]) -> Result<BTreeSet<Text>, AllocError>
     ensures { IfOk result (λ set. IsSetOf names.now set) }
 {

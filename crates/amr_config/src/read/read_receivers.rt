@@ -147,6 +147,7 @@ fn add_kind(
 }
 
 /// Inserts the integrations of one name before those of greater names.
+#[tactic(auto, using(crate::proofs::ReadLemmas::EntryInsertion::with_entries_is))]
 fn insert_entries(
     integrations: &mut Vec<Integration>,
     kind: &Text,

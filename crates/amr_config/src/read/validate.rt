@@ -40,6 +40,7 @@ pub(crate) fn refusal(alloc: Global, stated: &Stated) -> Result<Option<Refusal>,
 }
 
 /// Returns whether all receivers have different names.
+#[tactic(auto, using(crate::proofs::ReadLemmas::NameSets::named_apart))]
 fn are_named_apart(alloc: Global, receivers: &[Receiver]) -> Result<bool, AllocError>
     ensures { IfOk result (λ apart. apart ≡ apart_of receivers.now) }
 {
@@ -152,6 +153,7 @@ fn is_zero(span: Option<Span>) -> bool
 }
 
 /// Returns whether some route names a receiver that doesn't exist.
+#[tactic(auto, using(crate::proofs::ReadLemmas::NameSets::any_missing))]
 fn any_lost(alloc: Global, receivers: &[Receiver], routes: &[Route]) -> Result<bool, AllocError>
     ensures { IfOk result (λ lost. lost ≡ list_any (lost_of receivers.now) routes.now) }
 {

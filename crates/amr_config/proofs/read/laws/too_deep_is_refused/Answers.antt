@@ -1,5 +1,0 @@
-use Rattle.amr_config.proofs.ReadLemmas.Refused.{deep_is_refused}
-use Rattle.amr_config.proofs.read.laws.too_deep_is_refused.Goals as goal
-
-pub returns : goal.returns
-returns c = deep_is_refused
