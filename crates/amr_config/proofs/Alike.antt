@@ -84,16 +84,11 @@ same_cached a b alike labels =
     let groups = same_groups a b alike.routes labels in
     λ i. record { labels = labels; groups = groups i; rules = rules i }
 
--- ---- tests of two parts
-
-first_fails : {P R : Type 0} (v r : Bool) → Decides r P → (R → P) → r ≡ false → v ≡ false → Decides v R
-first_fails v r first part fails is = (λ yes. absurd (cc), λ r. absurd (false≢true (sym fails ∙ first.1 (part r))))
-
 -- ---- lists whose elements are alike, one by one
 
 module _ {X Y : Type 0} (f : X → Y) (xs ys : List X) (k : ℕ) (x y : X) (within : k < length xs) (within_other : k < length ys) (x_is : x ≡ get_or xs k x) (y_is : y ≡ get_or ys k y) where
   pub unlike_at : (r : Bool) → Decides r (f x ≡ f y) → r ≡ false → Decides false (map f xs ≡ map f ys)
-  unlike_at r alike fails = first_fails false r alike (λ same. grind (arith, get_or-map f xs k x (f x), get_or-map f ys k y (f x))) fails refl
+  unlike_at r alike fails = (λ yes. absurd (cc), λ same. absurd (false≢true (sym fails ∙ alike.1 (grind (arith, get_or-map f xs k x (f x), get_or-map f ys k y (f x))))))
 
 -- values that compare as equal are the same
 pub tie_decides : {K : Type 0} {R : K → K → Ordering} → IsTotalOrder R → IsAntisymmetric R → (x y : K) → Decides (eq_by_cmp R x y) (x ≡ y)

@@ -1,5 +1,5 @@
 -- The walk through the routes, one after another, finds those that the rule chooses.
-use Rattle.std.proofs.Common.{◌≡◌, ℕ, ◌+◌, ◌<◌, ◌≤◌, Bool, true, false, not, cond, List, [], ◌∷◌, ◌++◌, length, get_or, set, map, Option, Some, None, sym, ap, ◌∙◌, arith, ◌⊎◌, ◌&&◌, slice_get}
+use Rattle.std.proofs.Common.{refl, ◌≡◌, ℕ, ◌+◌, ◌<◌, ◌≤◌, Bool, true, false, not, cond, List, [], ◌∷◌, ◌++◌, length, get_or, set, map, Some, None, sym, ap, ◌∙◌, arith, ◌⊎◌, ◌&&◌, slice_get}
 use Rattle.std.specs.List.{list_any, range_with_len}
 use Rattle.std.specs.Option.{option_map_or}
 use Rattle.std.proofs.lemmas.Grind.{common_steps}
@@ -84,17 +84,17 @@ module _ (config : Config) (labels : LabelSet) (first : AreParentsFirst config) 
   pub unmatched_step : (n parent : ℕ) → parent_of config n ≡ Some parent → matches_route config labels n ≡ false → standings_at config labels n ++ standing false false false ∷ [] ≡ standings_at config labels (n + 1)
   unmatched_step n parent e m = all_stay n false (grind (arith, open_child n parent)) (λ q. standing_stays n q (grind arith))
 
-  taken_at : (n parent q : ℕ) → parent_of config n ≡ Some parent → (m : Standing) → m ≡ standing_of config labels n parent → m.is_open ≡ true → m.is_closed ≡ false → matches_route config labels n ≡ true → (c : Bool) → c ≡ route_is (λ route. route.continues) config n → (d : Standing) → q < n → get_or (set (map (standing_of config labels n) (range_with_len 0 n)) parent (standing true true (not c))) q d ≡ standing_of config labels (n + 1) q
+  taken_at : (n parent q : ℕ) → parent_of config n ≡ Some parent → (standing_of config labels n parent).is_open ≡ true → (standing_of config labels n parent).is_closed ≡ false → matches_route config labels n ≡ true → (d : Standing) → q < n → get_or (set (map (standing_of config labels n) (range_with_len 0 n)) parent (standing true true (not (route_is (λ route. route.continues) config n)))) q d ≡ standing_of config labels (n + 1) q
   unfolding standing_of
-  taken_at n parent q e m same o cl mt c cont d lt =
+  taken_at n parent q e o cl mt d lt =
       grind (arith, common_steps, any_more (takes_from config labels q) n, any_more (closes config labels q) n, get_or-map-range_with_len, length-map-range_with_len)
 
   -- a route that matches below an open one changes its parent's standing
-  pub taken_step : (n parent : ℕ) → n ≤ length config.routes → parent_of config n ≡ Some parent → (m : Standing) → m ≡ standing_of config labels n parent → m.is_open ≡ true → m.is_closed ≡ false → matches_route config labels n ≡ true → (c : Bool) → c ≡ route_is (λ route. route.continues) config n → set (standings_at config labels n) parent (standing true true (not c)) ++ standing true false false ∷ [] ≡ standings_at config labels (n + 1)
+  pub taken_step : (n parent : ℕ) → n ≤ length config.routes → parent_of config n ≡ Some parent → (standing_of config labels n parent).is_open ≡ true → (standing_of config labels n parent).is_closed ≡ false → matches_route config labels n ≡ true → set (standings_at config labels n) parent (standing true true (not (route_is (λ route. route.continues) config n))) ++ standing true false false ∷ [] ≡ standings_at config labels (n + 1)
   unfolding standings_at
-  taken_step n parent le e m same o cl mt c cont =
-      more n true (grind (arith, opens n parent le e m same)) (set (standings_at config labels n) parent (standing true true (not c)))
-      (same_lists _ _ (grind (arith, common_steps, length-map-range_with_len)) (λ q d h. grind (arith, common_steps, taken_at n parent q e m same o cl mt c cont d, get_or-map-range_with_len, length-map-range_with_len)))
+  taken_step n parent le e o cl mt =
+      more n true (grind (arith, opens n parent le e (standing_of config labels n parent) refl)) (set (standings_at config labels n) parent (standing true true (not (route_is (λ route. route.continues) config n))))
+      (same_lists _ _ (grind (arith, common_steps, length-map-range_with_len)) (λ q d h. grind (arith, common_steps, taken_at n parent q e o cl mt d, get_or-map-range_with_len, length-map-range_with_len)))
 
 module _ (config : Config) (labels : LabelSet) where
   chosen_standing : (n : ℕ) → is_chosen_standing (standing_of config labels (length config.routes) n) ≡ is_chosen config labels n
@@ -128,13 +128,9 @@ matches_is config labels n b s h is e =
     let found = (slice_get_cases config.routes n).1 in
     grind arith
 
-pub continues_is : (config : Config) (n : ℕ) (s : Settings) → s ≡ settings_of config n → s.continues ≡ route_is (λ route. route.continues) config n
-unfolding settings_of
-continues_is config n s is = ap (λ x. x.continues) is
-
-pub parent_is : (config : Config) (n : ℕ) (s : Settings) (o : Option ℕ) → s ≡ settings_of config n → s.parent ≡ o → parent_of config n ≡ o
-unfolding settings_of
-parent_is config n s o is e = sym (ap (λ x. x.parent) is) ∙ e
+pub found_standing : (config : Config) (labels : LabelSet) (n parent : ℕ) (d : Standing) → parent < n → get_or (standings_at config labels n) parent d ≡ standing_of config labels n parent
+unfolding standings_at
+found_standing config labels n parent d lt = grind (arith, get_or-map-range_with_len)
 
 pub length-standings_at : (config : Config) (labels : LabelSet) (n : ℕ) → length (standings_at config labels n) ≡ n
 unfolding standings_at

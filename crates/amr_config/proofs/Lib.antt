@@ -6,7 +6,6 @@ pub mod Kept
 pub mod Lines
 pub mod OwnPaths
 pub mod PassingOver
-pub mod Indexes
 pub mod Ranges
 pub mod Receivers
 pub mod Cached

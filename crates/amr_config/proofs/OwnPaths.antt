@@ -1,5 +1,5 @@
 -- The first route with each path, and which routes no other is like.
-use Rattle.std.proofs.Common.{inl, inr, ◌≡◌, ℕ, zero, suc, ◌+◌, ◌-◌, ◌<◌, ◌≤◌, Bool, true, false, true≢false, cond, List, [], ◌∷◌, ◌++◌, length, get_or, set, map, Option, Some, None, MatchOption, option_and_then, unwrap_or, refl, sym, ap, subst, ◌∙◌, arith, IfSome, Decides, slice_get, Ordering, Less, Equal, Greater}
+use Rattle.std.proofs.Common.{inl, inr, ◌≡◌, ℕ, zero, suc, ◌+◌, ◌-◌, ◌<◌, ◌≤◌, Bool, true, false, true≢false, cond, List, [], ◌∷◌, ◌++◌, length, get_or, set, map, Option, Some, None, MatchOption, option_and_then, unwrap_or, refl, sym, ap, subst, ◌∙◌, arith, IfSome, Decides, slice_get, Ordering, Equal}
 use Rattle.std.specs.BTreeMap as tree
 use Rattle.std.specs.Map.{lookup}
 use Rattle.std.specs.Cmp.{IsTotalOrder, nat_cmp_total}
@@ -49,10 +49,7 @@ path_key_cmp_total : IsTotalOrder path_key_cmp
 path_key_cmp_total = then_total (on_total (λ (q : PathKey). q.0) nat_cmp_total) (on_total (λ (q : PathKey). q.1) end_key_cmp_total)
 
 options_alike : (p q : Option ℕ) → option_cmp nat_cmp p q ≡ Equal → p ≡ q
-options_alike None None e = refl
-options_alike None (Some b) e = let h : ◌≡◌ {A = Ordering} Less Equal = e in absurd (cc)
-options_alike (Some a) None e = let h : ◌≡◌ {A = Ordering} Greater Equal = e in absurd (cc)
-options_alike (Some a) (Some b) e = ap (λ n. Some n) (nat_cmp-IsAntisymmetric a b e)
+options_alike p q e = grind (arith, nat_cmp-IsAntisymmetric)
 
 ends_alike : (p q : EndKey) → end_key_cmp p q ≡ Equal → p ≡ q
 ends_alike = exact_pairs (option_cmp nat_cmp) (slice_cmp matcher_cmp) options_alike (slice_cmp-IsAntisymmetric matcher_cmp-IsAntisymmetric)

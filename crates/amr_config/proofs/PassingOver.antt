@@ -23,10 +23,6 @@ pub without_error : {X E : Type 0} (r : Result X E) {P : Type 0} → (is_ok r �
 without_error (Ok x) h = h refl
 without_error (Err e) h = tt
 
--- one more route has been seen
-pub one_more : (config : Config) (labels : LabelSet) (n now : ℕ) (standings : List Standing) → n < length config.routes → now ≡ n + 1 → standings ≡ standings_at config labels (n + 1) → IsMoreSeen config labels n now standings
-one_more config labels n now standings lt len seen = record { more = omega arith; within = omega arith; seen = grind arith }
-
 module _ (config : Config) (labels : LabelSet) (first : AreParentsFirst config) where
   -- a route that isn't open changes no standing, whatever keeps it from being open
   child_step : (n parent : ℕ) → n ≤ length config.routes → parent_of config n ≡ Some parent → is_open config labels n ≡ false → (mt : Bool) → matches_route config labels n ≡ mt → standings_at config labels n ++ shut ∷ [] ≡ standings_at config labels (n + 1)

@@ -15,6 +15,7 @@ use amr_time::Span;
 use std::alloc::{AllocError, Global};
 
 /// Returns the settings of all routes. A parent comes before its children, so one pass is enough.
+#[tactic(auto, using(crate::proofs::Settling::settled_all), unfolding(crate::specs::Settled::settled_to))]
 pub(crate) fn inherit(alloc: Global, stated: &Stated) -> Result<Listing<Settings>, AllocError>
     requires { AreParentsFirst (stated_config stated.now) }
     ensures { IfOk result (λ settings. settings ≡ settings_of_all (stated_config stated.now)) }

@@ -9,6 +9,7 @@ use std::alloc::{AllocError, Global};
 use std::collections::BTreeMap;
 
 /// Returns the index of the first time interval with each name.
+#[tactic(auto, using(std::proofs::lemmas::List::drop_more, std::proofs::lemmas::Option::slice_get_read))]
 pub(crate) fn interval_indexes(
     alloc: Global,
     intervals: &[NamedInterval],

@@ -75,6 +75,7 @@ fn index_at(indexes: &[Option<usize>], route: usize) -> Option<usize>
 }
 
 /// Returns the index of the first receiver with each name.
+#[tactic(auto, using(std::proofs::lemmas::List::drop_more, std::proofs::lemmas::Option::slice_get_read))]
 fn indexes_by_name(
     alloc: Global,
     receivers: &[Receiver],

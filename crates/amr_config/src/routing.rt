@@ -81,6 +81,7 @@ fn next_to_see(config: &Config, standings: &[Standing], route: usize) -> usize
 }
 
 /// Returns the standings of all routes.
+#[tactic(auto, unfolding(crate::specs::Standings::standings_at))]
 fn standings(
     alloc: Global,
     answers: &mut MatchCache,
@@ -98,6 +99,7 @@ fn standings(
 }
 
 /// Notes the next route, and those below it if it isn't open.
+#[tactic(auto, using(crate::proofs::Chosen::root_step, std::proofs::lemmas::Option::slice_get_cases), unfolding(crate::specs::Settled::settings_of))]
 fn note_next(
     answers: &mut MatchCache,
     config: &Config,
@@ -122,6 +124,7 @@ fn note_next(
 }
 
 /// Notes the next route, which has a parent, and those below it if it isn't open.
+#[tactic(auto, using(crate::proofs::Chosen::found_standing, crate::proofs::Chosen::taken_step, std::proofs::lemmas::Option::slice_get_cases), unfolding(crate::specs::Settled::settings_of))]
 fn note_child(
     answers: &mut MatchCache,
     config: &Config,

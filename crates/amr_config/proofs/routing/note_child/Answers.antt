@@ -1,9 +1,8 @@
-use Rattle.std.proofs.Common.{◌≡◌, ◌+◌, ◌≤◌, ◌++◌, ◌∷◌, [], false, true, not, set, length, inl, inr, sym, ap, ◌∙◌, arith}
+use Rattle.std.proofs.Common.{◌≡◌, ◌+◌, ◌≤◌, false, true, length, inl, inr, sym, ap, ◌∙◌, arith}
 use Rattle.std.proofs.lemmas.Result.{on_ok_weaker}
-use Rattle.amr_config.specs.declared.routing.Standing.{Standing}
 use Rattle.amr_config.specs.Standings.{is_open, standings_at}
-use Rattle.amr_config.proofs.Chosen.{shut_open, taken_step, standing_found, matches_is, continues_is}
-use Rattle.amr_config.proofs.PassingOver.{one_more, unmatched_shut}
+use Rattle.amr_config.proofs.Chosen.{shut_open, standing_found, matches_is}
+use Rattle.amr_config.proofs.PassingOver.{unmatched_shut}
 use Rattle.amr_config.proofs.routing.note_child.Goals as goal
 use Rattle.amr_config.proofs.routing.note_child.Goals.{then-not-above-via-then-not-above, then-not-above-via-else-not-above+then-above, then-not-above-via-else-not-above+else-above+in_ok-matches_all+then-not-branch}
 
@@ -25,20 +24,3 @@ returns-then-not-above c =
           (sym (matches_is config labels n w.in_ok-matches_all.field-0 c.route-settings.result.now (rw c.len.ensures c.requires.next) c.route-settings.ensures.value w.in_ok-matches_all.ensures) ∙ w.if-not-branch.true)
     ] in
     on_ok_weaker c.pass_over.result (λ seen. seen labels c.requires.so_far (rw (← c.len.ensures) shut)) c.pass_over.ensures
-
-pub returns : goal.returns
-returns c =
-    let config = c.args.config.now in
-    let labels = c.args.labels.now in
-    let n = c.len.result in
-    let so_far : c.args.standings.now.items ≡ standings_at config labels n = c.requires.so_far ∙ ap (standings_at config labels) (sym c.len.ensures) in
-    let child = rw (← c.len.ensures) at c.requires.child in
-    let parents = c.route-settings.ensures.parents in
-    let above = standing_found config labels n c.args.parent c.args.standings.now.items c.index-above.result.now (parents n c.args.parent child) so_far c.index-above.ensures in
-    let matches = matches_is config labels n c.in_ok-matches_all.field-0 c.route-settings.result.now (rw c.len.ensures c.requires.next) c.route-settings.ensures.value c.in_ok-matches_all.ensures in
-    let step = taken_step config labels parents n c.args.parent (omega (arith, c.len.ensures, c.requires.next)) child c.index-above.result.now above c.if-not-above.false c.if-above.false
-    (sym matches ∙ c.if-not-branch.false) c.route-settings.result.now.continues (continues_is config n c.route-settings.result.now c.route-settings.ensures.value) in
-    let taken : Standing = record { is_open = true; is_taken = true; is_closed = not c.route-settings.result.now.continues } in
-    rw (← c.len.ensures) (one_more config labels n _ c.push.new.self.items (rw c.len.ensures c.requires.next) (c.in_ok-push.ensures.len ∙ ap (λ m. m + 1) (sym c.len.ensures))
-    (c.in_ok-push.ensures.items ∙ ap (λ ms. set ms c.args.parent taken ++ c.new.result ∷ []) so_far
-    ∙ ap (λ m. set (standings_at config labels n) c.args.parent taken ++ m ∷ []) c.new.ensures ∙ step))
