@@ -9,7 +9,6 @@ use Rattle.amr_labels.specs.Map.{Map, empty, get, set, get-empty, get-set}
 use Rattle.amr_config.specs.declared.router.CachedRouting.{CachedRouting}
 use Rattle.amr_config.specs.declared.stated.rule_sides.RuleMatch.{RuleMatch}
 use Rattle.amr_config.specs.Stated.Config.{Config}
-use Rattle.amr_config.specs.Stated.RuleMatches.{rule_matches}
 use Rattle.amr_config.specs.Groups.{routing_to_cache, IsCacheOf, IsRoutingOf, AreSides}
 
 module _ {X : Type 0} (answer : LabelSet → X) where
@@ -25,10 +24,6 @@ module _ {X : Type 0} (answer : LabelSet → X) where
       let same : eq_by_cmp label_set_cmp other labels ≡ true → other ≡ labels = tells_apart label_set_cmp-IsAntisymmetric other labels in
       grind (arith, get-set label_set_cmp_total cached labels (Some x) other, is_cached other found)
 
-  -- it is also the answer of another kind that always gives the same
-  gives_same : (other : LabelSet → X) (cached : Map label_set_cmp X) → ((labels : LabelSet) → other labels ≡ answer labels) → ((labels : LabelSet) (found : X) → get cached labels ≡ Some found → found ≡ other labels) → Gives cached
-  gives_same other cached same is_cached labels found at = is_cached labels found at ∙ same labels
-
 -- what is cached at a place is so under any configuration that routes alike
 same_routing : (here there : Config) → ((labels : LabelSet) → routing_to_cache there labels ≡ routing_to_cache here labels) → (place : Option CachedRouting) → IsRoutingOf there place → IsRoutingOf here place
 same_routing here there same None is = tt
@@ -38,7 +33,7 @@ same_routing here there same (Some cached) is = is ∙ same cached.labels
 pub cached_alike : (here there : Config) → ((labels : LabelSet) → routing_to_cache there labels ≡ routing_to_cache here labels) → (cache : List (Option CachedRouting)) (sides : Map label_set_cmp (List RuleMatch)) → IsCacheOf there cache × AreSides there sides → IsCacheOf here cache × AreSides here sides
 cached_alike here there same cache sides are = (
   All-weaker (IsRoutingOf there) (IsRoutingOf here) (same_routing here there same) cache are.0,
-  gives_same (λ labels. rule_matches labels here.rules) (λ labels. rule_matches labels there.rules) sides (λ labels. ap (λ k. k.rules) (same labels)) are.1,
+  λ labels found at. are.1 labels found at ∙ ap (λ k. k.rules) (same labels),
 )
 
 -- what is found at a place of the labels that it was worked out of

@@ -49,15 +49,12 @@ module _ (config : Config) (first : AreParentsFirst config) (n : ℕ) (route : R
   settings_by None e = settings_under None e
   settings_by (Some parent) e = ap (settled_under route) (found_above parent (first n parent e)) ∙ settings_under (Some parent) e
 
-  settings_here : settled_under route (option_and_then (slice_get (settled_to config n)) route.parent) ≡ settings_of config n
-  settings_here = settings_by route.parent (sym own_parent)
-
 pub settled_more : (config : Config) → AreParentsFirst config → (n : ℕ) (route : Route) (above : Option Settings) (made : Settings) (so_far new : List Settings) → n < length config.routes → route ≡ get_or config.routes n route → so_far ≡ settled_to config n → above ≡ option_and_then (slice_get so_far) route.parent → made ≡ settled_under route above → new ≡ so_far ++ made ∷ [] → new ≡ settled_to config (n + 1)
 unfolding settled_to
 settled_more config first n route above made so_far new lt is sf ab md nw =
     let here : slice_get config.routes n ≡ Some route = slice_get-get_or config.routes n route lt ∙ ap (λ x. Some x) (sym is) in
     let value : made ≡ settings_of config n =
-    md ∙ ap (settled_under route) (ab ∙ ap (λ ss. option_and_then (slice_get ss) route.parent) sf) ∙ settings_here config first n route here in
+    md ∙ ap (settled_under route) (ab ∙ ap (λ ss. option_and_then (slice_get ss) route.parent) sf) ∙ settings_by config first n route here route.parent (sym (own_parent config first n route here)) in
     nw ∙ ap (λ ss. ss ++ made ∷ []) sf ∙ ap (λ s. map (settings_of config) (range_with_len 0 n) ++ s ∷ []) value
     ∙ sym (map-range_with_len_more (settings_of config) 0 n n (omega arith))
 

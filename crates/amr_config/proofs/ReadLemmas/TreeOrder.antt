@@ -147,10 +147,6 @@ found_adds : (whole : Data) (found : Option Data) (routes : List Route) → (tre
 found_adds whole None routes e = cc
 found_adds whole (Some d) routes e = route_adds whole 32 (codes "route") None d [] routes e none_yet
 
-routes_add : (d : Data) (routes : List Route) → (routes_at d).value ≡ Ok routes → Adds [] routes None
-unfolding routes_at
-routes_add d routes e = found_adds d (member_of (codes "route") d) routes e
-
 -- the routes of a whole configuration
 pub record IsTree (routes : List Route) : Type 0 where
   pub some : 0 < length routes
@@ -158,8 +154,9 @@ pub record IsTree (routes : List Route) : Type 0 where
   pub linked : IsLinked routes
 
 pub walked_tree : (d : Data) (stated : Stated) → (walked_at d).value ≡ Ok stated → IsTree stated.routes
+unfolding routes_at
 walked_tree d stated e =
-    let adds = routes_add d stated.routes (was_walked d stated e).routes in
+    let adds = found_adds d (member_of (codes "route") d) stated.routes (was_walked d stated e).routes in
     record { some = adds.longer; root = adds.has; linked = adds.linked }
 
 -- ---- each parent comes before its children

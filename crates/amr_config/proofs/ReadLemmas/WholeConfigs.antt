@@ -70,12 +70,10 @@ preorder config first tree n parent e =
     let same : p ≡ parent = same_Some p parent (sym is ∙ e') in
     rw (← same) (above_in_line config first n p up)
 
-of_judged : (d : Data) (config : Config) → WasJudged d config → IsPreorder config
-of_judged d config was =
-    rw was.is (preorder (stated_config was.stated) (parents_first d was.stated was.walked) (walked_tree d was.stated was.walked))
-
 pub routes_are_in_preorder : RoutesAreInPreorder
-routes_are_in_preorder d config e = of_judged d config (was_judged d config e)
+routes_are_in_preorder d config e =
+    let was = was_judged d config e in
+    rw was.is (preorder (stated_config was.stated) (parents_first d was.stated was.walked) (walked_tree d was.stated was.walked))
 
 -- what was parsed passes the validation
 
@@ -133,8 +131,7 @@ whole d stated ordered walked accepted =
       integrations = walked_in_order d stated ordered walked;
     }
 
-whole_judged : (d : Data) (config : Config) → HasOrderedKeys d → WasJudged d config → IsConfig config
-whole_judged d config ordered was = rw was.is (whole d was.stated ordered was.walked was.accepted)
-
 pub read_configs_are_whole : ReadConfigsAreWhole
-read_configs_are_whole d config ordered e = whole_judged d config ordered (was_judged d config e)
+read_configs_are_whole d config ordered e =
+    let was = was_judged d config e in
+    rw was.is (whole d was.stated ordered was.walked was.accepted)
