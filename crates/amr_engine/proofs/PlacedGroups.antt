@@ -1,7 +1,5 @@
 -- Where the alerts are placed, they are listed in their groups.
-use Rattle.std.specs.Prelude.{◌≡◌, ℕ, Some}
-use Rattle.std.specs.List.{Contains}
-use Rattle.std.proofs.Common.{refl, sym, subst}
+use Rattle.std.proofs.Common.{◌≡◌, ℕ, Some, Contains, refl, sym, subst}
 use Rattle.std.proofs.lemmas.List.Elements.{All-contains}
 use Rattle.amr_labels.specs.Map.{get, entries}
 use Rattle.amr_labels.specs.Labels.{LabelSet}

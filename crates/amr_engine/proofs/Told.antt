@@ -1,8 +1,6 @@
 -- In every run, each alert that an entry of the log has among those that fire is in the entry's
 -- notification.
-use Rattle.std.specs.Prelude.{◌≡◌, Bool, true, List, [], ◌∷◌, ◌++◌, Ok, if◌then◌else◌, map}
-use Rattle.std.specs.List.{Contains}
-use Rattle.std.proofs.Common.{refl, sym, ap, ◌∙◌, subst, inl, inr}
+use Rattle.std.proofs.Common.{◌≡◌, Bool, true, List, [], ◌∷◌, ◌++◌, Ok, if◌then◌else◌, map, Contains, refl, sym, ap, ◌∙◌, subst, inl, inr}
 use Rattle.std.proofs.lemmas.List.Elements.{Contains-append_left, Contains-append_right}
 use Rattle.amr_labels.specs.Map.{entries, empty, get-empty}
 use Rattle.amr_labels.specs.Set.{contains}

@@ -1,6 +1,4 @@
-use Rattle.std.proofs.Common.{◌≡◌, ◌<◌, false, length, sym, ap, ◌∙◌, arith}
-use Rattle.std.specs.Prelude.{nat_lt}
-use Rattle.std.proofs.lemmas.Bool.{lt-ltb}
+use Rattle.std.proofs.Common.{nat_lt, lt-ltb, ◌≡◌, ◌<◌, false, length, sym, ap, ◌∙◌, arith}
 use Rattle.std.proofs.lemmas.Bool.Decides.{nat_tests}
 use Rattle.amr_events.specs.Actions.Events.{is_label}
 use Rattle.amr_engine.proofs.Endings.{label_accepted, past_refused, refused_by_act, refused_by_moves, done_after_moves}

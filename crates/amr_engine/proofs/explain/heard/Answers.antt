@@ -1,5 +1,4 @@
-use Rattle.std.proofs.Common.{◌≡◌, sym, ap, ◌∙◌}
-use Rattle.std.specs.Option.{option_copied}
+use Rattle.std.proofs.Common.{option_copied, ◌≡◌, sym, ap, ◌∙◌}
 use Rattle.amr_labels.specs.Map.{get}
 use Rattle.amr_engine.specs.Flush.{log_key_of}
 use Rattle.amr_engine.specs.Explain.{heard, finding_of_entry}

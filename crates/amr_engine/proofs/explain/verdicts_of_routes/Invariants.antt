@@ -1,5 +1,4 @@
-use Rattle.std.proofs.Common.{◌≡◌, ◌++◌, drop}
-use Rattle.std.specs.List.{flat_map}
+use Rattle.std.proofs.Common.{flat_map, ◌≡◌, ◌++◌, drop}
 use Rattle.amr_config.specs.Routing.{chosen_routes}
 use Rattle.amr_engine.specs.Explain.{verdicts_at}
 use Rattle.amr_engine.proofs.explain.verdicts_of_routes.Given as goal

@@ -1,5 +1,4 @@
-use Rattle.std.proofs.Common.{◌≡◌, ◌*◌, drop}
-use Rattle.std.specs.List.{fold}
+use Rattle.std.proofs.Common.{fold, ◌≡◌, ◌*◌, drop}
 use Rattle.amr_engine.specs.State.Kept.{GrownBy, before_open_record}
 use Rattle.amr_engine.specs.Flush.{notify_if_due}
 use Rattle.amr_engine.proofs.flush.notify_integrations.Given as goal

@@ -1,5 +1,4 @@
-use Rattle.std.proofs.Common.{◌≡◌, drop}
-use Rattle.std.specs.List.{filter_map}
+use Rattle.std.proofs.Common.{filter_map, ◌≡◌, drop}
 use Rattle.amr_rules.specs.Alerts.{completed_alert}
 use Rattle.amr_engine.proofs.post.has_valid.Given as goal
 

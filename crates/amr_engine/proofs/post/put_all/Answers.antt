@@ -1,5 +1,4 @@
-use Rattle.std.proofs.Common.{◌≡◌, ℕ, ◌+◌, ◌∷◌, ◌++◌, [], Some, None, List, length, drop, sym, ap, ◌∙◌}
-use Rattle.std.specs.List.{fold, filter_map}
+use Rattle.std.proofs.Common.{fold, filter_map, ◌≡◌, ℕ, ◌+◌, ◌∷◌, ◌++◌, [], Some, None, List, length, drop, sym, ap, ◌∙◌}
 use Rattle.std.proofs.lemmas.List.{drop_more, append_assoc}
 use Rattle.amr_labels.specs.Labels.{LabelSet}
 use Rattle.amr_events.specs.declared.posts.posted_alert.PostedAlert.{PostedAlert}

@@ -1,5 +1,4 @@
-use Rattle.std.proofs.Common.{◌≡◌, ◌≤◌, ◌+◌, ◌++◌, drop, length}
-use Rattle.std.specs.List.{fold, filter_map}
+use Rattle.std.proofs.Common.{fold, filter_map, ◌≡◌, ◌≤◌, ◌+◌, ◌++◌, drop, length}
 use Rattle.amr_rules.specs.Alerts.{completed_alert}
 use Rattle.amr_engine.specs.CachedQuiet.{IsTrueOf}
 use Rattle.amr_engine.specs.Events.{put, skipped_from}

@@ -1,5 +1,4 @@
-use Rattle.std.proofs.Common.{◌≡◌, drop}
-use Rattle.std.specs.List.{fold}
+use Rattle.std.proofs.Common.{fold, ◌≡◌, drop}
 use Rattle.amr_labels.specs.Map.{remove}
 use Rattle.amr_engine.specs.CachedQuiet.{times_in}
 use Rattle.amr_engine.proofs.quiet.remove_all.Given as goal

@@ -1,5 +1,4 @@
-use Rattle.std.proofs.Common.{◌≡◌, true, subst, ◌∙◌}
-use Rattle.std.proofs.Math.Nat.{le_refl}
+use Rattle.std.proofs.Common.{le_refl, ◌≡◌, true, subst, ◌∙◌}
 use Rattle.std.specs.List.{list_all}
 use Rattle.amr_labels.specs.Labels.{label_set_cmp}
 use Rattle.amr_rules.specs.declared.alert.Alert.{Alert}

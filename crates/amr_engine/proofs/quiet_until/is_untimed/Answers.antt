@@ -1,5 +1,4 @@
-use Rattle.std.proofs.Common.{true, false, refl, sym, ◌∙◌, length}
-use Rattle.std.specs.Prelude.{◌==◌}
+use Rattle.std.proofs.Common.{◌==◌, true, false, refl, sym, ◌∙◌, length}
 use Rattle.amr_engine.proofs.CachedQuiet.{untimed_by}
 use Rattle.amr_engine.proofs.quiet_until.is_untimed.Goals as goal
 

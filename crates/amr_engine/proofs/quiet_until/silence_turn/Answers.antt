@@ -1,8 +1,5 @@
-use Rattle.std.proofs.Common.{◌≡◌, true, subst, ◌∙◌}
-use Rattle.std.proofs.Math.Nat.{le_refl}
-use Rattle.std.specs.Prelude.{◌&&◌}
+use Rattle.std.proofs.Common.{le_refl, ◌&&◌, nat_cmp, ◌≡◌, true, subst, ◌∙◌}
 use Rattle.std.specs.List.{list_all}
-use Rattle.std.specs.Ordering.{nat_cmp}
 use Rattle.amr_rules.specs.declared.silence.Silence.{Silence}
 use Rattle.amr_engine.specs.Quiet.{is_outside}
 use Rattle.amr_engine.proofs.Values.{all_covered}

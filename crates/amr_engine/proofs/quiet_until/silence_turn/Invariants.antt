@@ -1,5 +1,4 @@
-use Rattle.std.proofs.Common.{◌≡◌, ℕ, ◌≤◌, true}
-use Rattle.std.specs.Prelude.{◌&&◌}
+use Rattle.std.proofs.Common.{◌&&◌, ◌≡◌, ℕ, ◌≤◌, true}
 use Rattle.std.specs.List.{list_all}
 use Rattle.amr_engine.specs.Quiet.{is_outside, no_silence_turns}
 use Rattle.amr_engine.proofs.quiet_until.silence_turn.Given as goal

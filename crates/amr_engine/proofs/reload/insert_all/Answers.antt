@@ -1,5 +1,4 @@
-use Rattle.std.proofs.Common.{◌+◌, ◌*◌, length, drop, ap, sym, ◌∙◌}
-use Rattle.std.specs.List.{fold}
+use Rattle.std.proofs.Common.{fold, ◌+◌, ◌*◌, length, drop, ap, sym, ◌∙◌}
 use Rattle.amr_engine.specs.State.State.{State, insert_into_groups}
 use Rattle.amr_engine.specs.Weight.{copies}
 use Rattle.amr_engine.proofs.Copied.{insert_into_groups-config}

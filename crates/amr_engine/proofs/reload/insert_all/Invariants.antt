@@ -1,5 +1,4 @@
-use Rattle.std.proofs.Common.{◌≡◌, ◌≤◌, ◌+◌, ◌*◌, drop, length}
-use Rattle.std.specs.List.{fold}
+use Rattle.std.proofs.Common.{fold, ◌≡◌, ◌≤◌, ◌+◌, ◌*◌, drop, length}
 use Rattle.amr_engine.specs.State.State.{insert_into_groups}
 use Rattle.amr_engine.specs.State.Kept.{before_open_record}
 use Rattle.amr_engine.specs.Weight.{copies}

@@ -1,5 +1,4 @@
-use Rattle.std.proofs.Common.{◌≡◌, ◌++◌, drop}
-use Rattle.std.specs.List.{filter}
+use Rattle.std.proofs.Common.{filter, ◌≡◌, ◌++◌, drop}
 use Rattle.amr_engine.specs.Indexes.CachedSilences.{is_above}
 use Rattle.amr_engine.proofs.indexes.cached_periods.push_above.Given as goal
 

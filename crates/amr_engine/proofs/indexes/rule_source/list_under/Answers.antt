@@ -1,5 +1,4 @@
-use Rattle.std.proofs.Common.{◌≡◌, None, Some, sym, ap, subst, ◌∙◌}
-use Rattle.std.specs.Prelude.{unwrap_or, OnOk, OnErr}
+use Rattle.std.proofs.Common.{unwrap_or, OnOk, OnErr, ◌≡◌, None, Some, sym, ap, subst, ◌∙◌}
 use Rattle.std.specs.FinMap.{find}
 use Rattle.amr_labels.specs.Map.{set, get}
 use Rattle.amr_tables.specs.Numbered.{number_of}

@@ -1,5 +1,4 @@
-use Rattle.std.proofs.Common.{◌≡◌, ap, ◌∙◌}
-use Rattle.std.specs.List.{fold}
+use Rattle.std.proofs.Common.{fold, ◌≡◌, ap, ◌∙◌}
 use Rattle.amr_labels.specs.Map.{remove}
 use Rattle.amr_engine.specs.Events.{put}
 use Rattle.amr_engine.specs.CachedQuiet.{times_in, quiet_times, without_joined}

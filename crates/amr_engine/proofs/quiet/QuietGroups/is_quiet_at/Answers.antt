@@ -1,5 +1,4 @@
-use Rattle.std.specs.Prelude.{option_copied}
-use Rattle.std.proofs.Common.{Some, sym, ap, ◌∙◌, inl, inr}
+use Rattle.std.proofs.Common.{option_copied, Some, sym, ap, ◌∙◌, inl, inr}
 use Rattle.amr_engine.proofs.CachedQuiet.{cached_quiet}
 use Rattle.amr_engine.proofs.quiet.QuietGroups.is_quiet_at.Goals as goal
 

@@ -1,5 +1,4 @@
-use Rattle.std.specs.Prelude.{option_copied}
-use Rattle.std.proofs.Common.{Some, sym, ap, ◌∙◌, inl, inr}
+use Rattle.std.proofs.Common.{option_copied, Some, sym, ap, ◌∙◌, inl, inr}
 use Rattle.amr_engine.proofs.CachedQuiet.{quiet_if_cached}
 use Rattle.amr_engine.proofs.quiet.QuietGroups.quiet_from.Goals as goal
 

@@ -1,5 +1,4 @@
-use Rattle.std.proofs.Common.{◌≡◌, ◌++◌, drop}
-use Rattle.std.specs.List.{filter}
+use Rattle.std.proofs.Common.{filter, ◌≡◌, ◌++◌, drop}
 use Rattle.amr_labels.specs.Labels.{label_set_cmp}
 use Rattle.amr_rules.specs.Muting.{is_agreeing, sources_of}
 use Rattle.amr_tables.specs.Numbered.{map_of}

@@ -1,6 +1,4 @@
-use Rattle.std.proofs.Common.{◌∙◌, sym, ap, map, length, slice_get, Some, arith, refl}
-use Rattle.std.specs.Prelude.{◌<◌}
-use Rattle.std.specs.List.{fold}
+use Rattle.std.proofs.Common.{◌<◌, fold, ◌∙◌, sym, ap, map, length, slice_get, Some, arith, refl}
 use Rattle.std.proofs.lemmas.Option.{slice_get-get_or}
 use Rattle.amr_config.specs.declared.route_labels.RouteLabels.{RouteLabels}
 use Rattle.amr_engine.specs.State.State.{insert_into_group, insert_into_groups}

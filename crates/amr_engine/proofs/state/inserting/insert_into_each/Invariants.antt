@@ -1,5 +1,4 @@
-use Rattle.std.proofs.Common.{◌≡◌, ◌*◌, drop, map, length}
-use Rattle.std.specs.List.{fold}
+use Rattle.std.proofs.Common.{fold, ◌≡◌, ◌*◌, drop, map, length}
 use Rattle.amr_config.specs.Groups.{groups_of}
 use Rattle.amr_config.specs.Routing.{chosen_routes}
 use Rattle.amr_engine.specs.State.State.{insert_into_group, insert_into_groups}

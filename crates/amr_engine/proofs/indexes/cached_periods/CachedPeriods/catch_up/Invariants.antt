@@ -1,5 +1,4 @@
-use Rattle.std.proofs.Common.{◌≡◌, ◌≤◌}
-use Rattle.std.specs.Ordering.{nat_cmp}
+use Rattle.std.proofs.Common.{nat_cmp, ◌≡◌, ◌≤◌}
 use Rattle.amr_tables.specs.Numbered.{map_of}
 use Rattle.amr_engine.specs.Indexes.CachedSilences.{changed_ids, IsCached}
 use Rattle.amr_engine.proofs.indexes.cached_periods.CachedPeriods.catch_up.Given as goal

@@ -1,5 +1,4 @@
-use Rattle.std.proofs.Common.{refl, sym, subst}
-use Rattle.std.specs.Prelude.{All}
+use Rattle.std.proofs.Common.{All, refl, sym, subst}
 use Rattle.std.proofs.lemmas.List.Elements.{All-push}
 use Rattle.amr_engine.specs.declared.indexes.rule_source.CachedSide.{CachedSide}
 use Rattle.amr_engine.specs.Indexes.RuleSources.{ListsSide}

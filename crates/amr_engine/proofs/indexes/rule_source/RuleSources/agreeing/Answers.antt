@@ -1,5 +1,4 @@
-use Rattle.std.proofs.Common.{◌≡◌, ◌≤◌, None, refl, length, arith, sym, ap, ◌∙◌}
-use Rattle.std.specs.Option.{option_copied}
+use Rattle.std.proofs.Common.{option_copied, ◌≡◌, ◌≤◌, None, refl, length, arith, sym, ap, ◌∙◌}
 use Rattle.std.proofs.lemmas.Bool.Decides.{nat_tests}
 use Rattle.amr_tables.specs.Numbered.{next_number}
 use Rattle.amr_engine.specs.Indexes.LabelValues.{label_values}

@@ -1,7 +1,5 @@
-use Rattle.std.proofs.Common.{Some, sym, ap, ◌∙◌, length}
+use Rattle.std.proofs.Common.{nat_cmp, IfSome, Some, sym, ap, ◌∙◌, length}
 use Rattle.std.proofs.lemmas.List.{length-map}
-use Rattle.std.specs.Ordering.{nat_cmp}
-use Rattle.std.specs.Prelude.{IfSome}
 use Rattle.std.proofs.lemmas.List.Elements.{All-set}
 use Rattle.amr_tables.proofs.Emptying.{so_with_empty}
 use Rattle.amr_labels.specs.Matcher.ValueBits.{value_bits}

@@ -1,6 +1,4 @@
-use Rattle.std.proofs.Common.{◌<◌, List, Option, length, arith, sym, subst}
-use Rattle.std.specs.Prelude.{IfSome}
-use Rattle.std.specs.Ordering.{nat_cmp}
+use Rattle.std.proofs.Common.{IfSome, nat_cmp, ◌<◌, List, Option, length, arith, sym, subst}
 use Rattle.std.proofs.lemmas.Grind.{common_steps}
 use Rattle.std.proofs.lemmas.List.Elements.{All-set}
 use Rattle.amr_tables.specs.Numbered.{map_of}

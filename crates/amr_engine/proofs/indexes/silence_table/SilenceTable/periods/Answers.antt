@@ -1,7 +1,6 @@
-use Rattle.std.proofs.Common.{◌≡◌, ◌≤◌, ℕ, length, rules, arith, sym, ap, subst, ◌∙◌}
+use Rattle.std.proofs.Common.{nat_cmp, ◌≡◌, ◌≤◌, ℕ, length, rules, arith, sym, ap, subst, ◌∙◌}
 use Rattle.std.proofs.lemmas.List.{length-map}
 use Rattle.std.proofs.lemmas.Grind.{common_steps}
-use Rattle.std.specs.Ordering.{nat_cmp}
 use Rattle.std.proofs.lemmas.Map.Views.{tells_apart}
 use Rattle.amr_labels.specs.Labels.{LabelSet, label_set_cmp-IsAntisymmetric}
 use Rattle.amr_tables.specs.Numbered.{Numbered, map_of}

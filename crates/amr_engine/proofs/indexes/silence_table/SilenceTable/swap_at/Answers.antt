@@ -1,5 +1,4 @@
-use Rattle.std.proofs.Common.{◌≡◌, ℕ, Some, sym, ap, subst, ◌∙◌}
-use Rattle.std.specs.Ordering.{nat_cmp}
+use Rattle.std.proofs.Common.{nat_cmp, ◌≡◌, ℕ, Some, sym, ap, subst, ◌∙◌}
 use Rattle.amr_tables.specs.Numbered.{Numbered, map_of, number_of, IsValueOf, IsSetAt, SamePlaces}
 use Rattle.amr_rules.specs.declared.silence.Silence.{Silence}
 use Rattle.amr_rules.specs.Silences.{Silences}

@@ -1,5 +1,4 @@
-use Rattle.std.proofs.Common.{subst}
-use Rattle.std.specs.Prelude.{option_map}
+use Rattle.std.proofs.Common.{option_map, subst}
 use Rattle.amr_labels.specs.Labels.{LabelSet, label_set_cmp}
 use Rattle.amr_rules.specs.declared.alert.Alert.{Alert}
 use Rattle.amr_tables.specs.Numbered.{Numbered, map_of}

@@ -1,6 +1,5 @@
-use Rattle.std.proofs.Common.{◌≡◌, IfOk, List, Bor, None, Some, map, ap, subst, ◌∙◌}
+use Rattle.std.proofs.Common.{option_copied, ◌≡◌, IfOk, List, Bor, None, Some, map, ap, subst, ◌∙◌}
 use Rattle.std.specs.Map.Iter.{deref_pair}
-use Rattle.std.specs.Option.{option_copied}
 use Rattle.amr_labels.specs.Labels.{LabelSet, label_set_cmp, label_set_cmp_total, label_set_cmp-IsAntisymmetric}
 use Rattle.amr_rules.specs.declared.alert.Alert.{Alert}
 use Rattle.amr_rules.specs.Muting.{sources_of}

@@ -1,5 +1,4 @@
-use Rattle.std.proofs.Common.{subst}
-use Rattle.std.specs.Prelude.{option_map}
+use Rattle.std.proofs.Common.{option_map, subst}
 use Rattle.amr_tables.specs.Numbered.{map_of}
 use Rattle.amr_engine.specs.declared.state.due.Kind.TheVariants.{GroupFlush}
 use Rattle.amr_config.specs.RouteLabels.{route_labels_cmp}

@@ -1,7 +1,4 @@
-use Rattle.std.proofs.Common.{rules, ◌≡◌, ◌++◌, List, Some, sym, ap, ◌∙◌, arith}
-use Rattle.std.specs.Prelude.{IsSortedBy}
-use Rattle.std.specs.List.{filter_map}
-use Rattle.std.specs.Ordering.{is_lt}
+use Rattle.std.proofs.Common.{IsSortedBy, filter_map, is_lt, rules, ◌≡◌, ◌++◌, List, Some, sym, ap, ◌∙◌, arith}
 use Rattle.std.proofs.lemmas.List.{append-nil, at_drop_all}
 use Rattle.std.proofs.lemmas.Fn.{always_returns_same}
 use Rattle.std.proofs.lemmas.List.MinMax.{ranks_by}

@@ -1,5 +1,4 @@
-use Rattle.std.proofs.Common.{◌≡◌, ◌++◌, drop}
-use Rattle.std.specs.List.{filter_map}
+use Rattle.std.proofs.Common.{filter_map, ◌≡◌, ◌++◌, drop}
 use Rattle.amr_engine.specs.State.Rostered.{member_at}
 use Rattle.amr_engine.proofs.state.roster.Roster.members_of.Given as goal
 

@@ -1,6 +1,4 @@
-use Rattle.std.proofs.Common.{cond, length, sym, ap, subst, ◌∙◌, arith}
-use Rattle.std.specs.Prelude.{◌==◌}
-use Rattle.std.proofs.lemmas.List.{length-set}
+use Rattle.std.proofs.Common.{◌==◌, length-set, cond, length, sym, ap, subst, ◌∙◌, arith}
 use Rattle.amr_tables.specs.Places.{is_marked}
 use Rattle.amr_tables.specs.Numbered.{number_of, IsNumber, IsValueOf, IsSetAt, SamePlaces}
 use Rattle.amr_config.specs.RouteLabels.{route_labels_cmp}

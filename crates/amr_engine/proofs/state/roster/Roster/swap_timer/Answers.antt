@@ -1,6 +1,4 @@
-use Rattle.std.proofs.Common.{◌≡◌, Some, length, refl, sym, ap, subst, ◌∙◌}
-use Rattle.std.proofs.Math.Nat.{le_refl}
-use Rattle.std.proofs.lemmas.List.{length-set}
+use Rattle.std.proofs.Common.{le_refl, length-set, ◌≡◌, Some, length, refl, sym, ap, subst, ◌∙◌}
 use Rattle.amr_tables.specs.Numbered.{number_of, IsNumber, IsValueOf, IsSetAt, SamePlaces}
 use Rattle.amr_engine.specs.State.Rostered.{Rostered}
 use Rattle.amr_engine.specs.declared.state.due.Kind.TheVariants.{GroupRemoval, GroupFlush}

@@ -1,5 +1,4 @@
-use Rattle.std.proofs.Common.{Some, sym, ap, ◌∙◌}
-use Rattle.std.specs.Option.{option_copied}
+use Rattle.std.proofs.Common.{option_copied, Some, sym, ap, ◌∙◌}
 use Rattle.amr_labels.specs.Map.{get}
 use Rattle.amr_tables.specs.Numbered.{number_of}
 use Rattle.amr_engine.specs.declared.state.change.Change.TheVariants.{OfLog}

@@ -1,5 +1,4 @@
-use Rattle.std.proofs.Common.{◌≡◌, IfOk, sym, ap, subst, ◌∙◌}
-use Rattle.std.specs.Prelude.{option_map}
+use Rattle.std.proofs.Common.{option_map, ◌≡◌, IfOk, sym, ap, subst, ◌∙◌}
 use Rattle.amr_labels.specs.Labels.{label_set_cmp}
 use Rattle.amr_tables.specs.Numbered.{map_of}
 use Rattle.amr_config.specs.RouteLabels.{route_labels_cmp}
