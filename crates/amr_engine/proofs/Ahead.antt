@@ -1,6 +1,5 @@
 -- The moves up to a moment are the first of those up to a later one.
-use Rattle.std.specs.Prelude.{◌≡◌, ℕ, zero, suc, Option, Some, None, ◌≤◌, ◌+◌, ◌-◌}
-use Rattle.std.proofs.Common.{refl, sym, ap, ◌∙◌, subst, arith}
+use Rattle.std.proofs.Common.{◌≡◌, ℕ, zero, suc, Option, Some, None, ◌≤◌, ◌+◌, ◌-◌, refl, sym, arith, ap, ◌∙◌}
 use Rattle.amr_time.specs.Time.{Moment}
 use Rattle.amr_engine.specs.State.State.{State}
 use Rattle.amr_engine.specs.State.Dues.{Due, next_due}
@@ -23,7 +22,7 @@ pub none_made : (left : ℕ) (at : Moment) (s : State) → IsPartMade left at s 
 none_made left at s = (omega arith, refl, begins left at s)
 
 pub none_lighter : (left : ℕ) (at : Moment) (s : State) → first_weight (left - 0) at s ≡ first_weight left at s
-none_lighter left at s = let all : left - 0 ≡ left = omega arith in ap (λ n. first_weight n at s) all
+none_lighter left at s = grind arith
 
 module _ (until at : Moment) (early : until ≤ at) where
   -- so many moves are made, which are some of those up to the later moment
@@ -40,21 +39,10 @@ module _ (until at : Moment) (early : until ≤ at) where
   parted_some : (left : ℕ) (s : State) (d : Due) (run : ℕ × State) → next_due until s ≡ Some d → Parted left (move d s) run → Parted (suc left) s (run.0 + 1, run.1)
   parted_some left s d run next parted =
       let later = next_due-later until at early s d next in
-      let rest : left - run.0 ≡ suc left - (run.0 + 1) = omega arith in
       let count : run.0 + 1 ≡ suc run.0 = omega arith in
-      let total : 1 + run.0 ≡ run.0 + 1 = omega arith in
-      let step = ap (λ (x : State). after_first_moves run.0 x) (sym (moved_by s d (next_is_first at s d (sym later)))) in
-      record {
-        made = (
-          omega (arith, parted.made.0),
-          parted.made.1 ∙ step ∙ ap (λ n. after_first_moves n s) (sym count),
-          advance_some left at s d later ∙ ap (λ r. plus_moves r 1) parted.made.2
-              ∙ plus_twice (counted_run (advance (left - run.0) at run.1)) run.0 1
-              ∙ ap (λ n. plus_moves (counted_run (advance (left - run.0) at run.1)) n) total
-              ∙ ap (λ n. plus_moves (counted_run (advance n at run.1)) (run.0 + 1)) rest,
-        );
-        weight = omega (arith, parted.weight, first_weight-some left until s d next, first_weight-some left at s d later, ap (λ n. first_weight n at run.1) rest);
-      }
+      let moved = moved_by s d (next_is_first at s d (sym later)) in
+      let twice = plus_twice (counted_run (advance (left - run.0) at run.1)) run.0 1 in
+      grind (arith, moved, twice, advance_some left at s d later, first_weight-some left until s d next, first_weight-some left at s d later)
 
   -- so they are made, or more are due up to the later moment too; and fewer moves weigh no more
   abbrev Goes : ℕ → State → Option (ℕ × State) → Type 0
@@ -67,14 +55,12 @@ module _ (until at : Moment) (early : until ≤ at) where
       more : (left : ℕ) (s : State) (d : Due) (r : Option (ℕ × State)) → next_due until s ≡ Some d → Goes left (move d s) r → Goes (suc left) s (plus_moves r 1)
       more left s d None next over =
           let later = next_due-later until at early s d next in
-          (advance_some left at s d later ∙ ap (λ r. plus_moves r 1) over.0, omega (arith, over.1, first_weight-some left until s d next, first_weight-some left at s d later))
+          grind (arith, advance_some left at s d later, first_weight-some left until s d next, first_weight-some left at s d later)
       more left s d (Some run) next rest = parted_some left s d run next rest
 
   -- the moves up to the first moment are made, or are too many
   pub part_made : (left : ℕ) (s t : State) (made : Option ℕ) → counted_run (advance left until s) ≡ moves_to t made → IsPartMade left at s t made
-  part_made left s t None is = (subst (Goes left s) is (goes left s)).0
-  part_made left s t (Some n) is = (subst (Goes left s) is (goes left s)).made
+  part_made left s t made is = grind (arith, goes left s)
 
   pub part_weighs : (left : ℕ) (s t : State) (made : Option ℕ) → counted_run (advance left until s) ≡ moves_to t made → first_weight left until s + weight_left left at t made ≤ first_weight left at s
-  part_weighs left s t None is = omega (arith, (subst (Goes left s) is (goes left s)).1)
-  part_weighs left s t (Some n) is = omega (arith, (subst (Goes left s) is (goes left s)).weight)
+  part_weighs left s t made is = grind (arith, goes left s)

@@ -1,9 +1,7 @@
 -- The cache of quiet groups, and what keeps it true of the state.
-use Rattle.std.specs.Prelude.{◌≡◌, ℕ, Bool, true, not, ◌&&◌, List, [], ◌∷◌, Option, Some, None, Result, Ok, Err, option_map, ◌≤◌, ◌<◌, ◌+◌, nat_le, ◌==◌, length, ◌⊎◌}
+use Rattle.std.proofs.Common.{[], ◌≡◌, ℕ, Bool, true, ◌&&◌, List, ◌∷◌, Option, Some, None, Result, option_map, ◌≤◌, ◌<◌, ◌+◌, nat_le, ◌==◌, length, ◌⊎◌, OnOk, OnErr, refl, sym, ap, ◌∙◌, subst, arith, get_or, drop, inl, inr}
 use Rattle.std.specs.Option.{option_or, is_none}
-use Rattle.std.specs.Result.{OnOk, OnErr}
 use Rattle.std.specs.List.{list_all, filter}
-use Rattle.std.proofs.Common.{refl, sym, ap, ◌∙◌, subst, arith, get_or, drop, inl, inr}
 use Rattle.std.proofs.lemmas.List.{at_drop_more}
 use Rattle.std.proofs.lemmas.Bool.Decides.{nat_tests}
 use Rattle.std.proofs.lemmas.Bool.{and_parts}
@@ -14,11 +12,11 @@ use Rattle.amr_labels.specs.Labels.{LabelSet}
 use Rattle.amr_time.specs.Time.{Moment, Span}
 use Rattle.amr_config.specs.declared.stated.receiver.Integration.{Integration}
 use Rattle.amr_config.specs.Stated.Config.{Config}
-use Rattle.amr_config.specs.Routing.{HasOwnPath, repeat_interval_of}
+use Rattle.amr_config.specs.Routing.{HasOwnPath}
 use Rattle.amr_config.specs.Settled.{settings_of}
 use Rattle.amr_config.specs.declared.settings.Settings.{Settings}
 use Rattle.amr_rules.specs.declared.dedup.LogEntry.{LogEntry}
-use Rattle.amr_rules.specs.Dedup.{LabelSets, needs_update}
+use Rattle.amr_rules.specs.Dedup.{LabelSets}
 use Rattle.amr_config.specs.declared.stated.rule.InhibitRule.{InhibitRule}
 use Rattle.amr_rules.specs.declared.alert.Alert.{Alert}
 use Rattle.amr_rules.specs.declared.silence.Silence.{Silence}
@@ -36,7 +34,7 @@ use Rattle.amr_engine.specs.declared.quiet.Period.{Period}
 use Rattle.amr_engine.specs.declared.quiet.QuietTime.{QuietTime}
 use Rattle.amr_engine.specs.declared.quiet.QuietGroups.{QuietGroups}
 use Rattle.amr_engine.specs.Events.{put}
-use Rattle.amr_engine.specs.Flush.{Members, let_through, labels_of, log_key_of, flush}
+use Rattle.amr_engine.specs.Flush.{Members, let_through, flush}
 use Rattle.amr_engine.specs.Quiet.{is_outside, no_alert_ends, no_source_ends, no_silence_turns, all_fire_until, is_untimed, no_repeat_before, is_notified, are_notified, with_timer_reset, IsStill, IsQuiet, IsQuietWith, IsAllNotified, LeavesOthers}
 use Rattle.amr_engine.specs.CachedQuiet.{Times, times_in, quiet_times, IsNotifiedIn, IsQuietSince, IsTrueTime, IsTrueOf, Outlasts, without_joined}
 use Rattle.amr_engine.proofs.FewerNotified.{all_weaker}
@@ -50,9 +48,7 @@ use Rattle.amr_engine.proofs.Listed.{none_left}
 -- a cache of no group is true of each state
 pub nothing_cached : (cache : QuietGroups) → quiet_times cache ≡ empty → cache.still ≡ None → (s : State) → IsTrueOf cache s
 nothing_cached cache times still s = record {
-  quiet = λ group time cached.
-      let none : get (quiet_times cache) group ≡ None = ap (λ (m : Times). get m group) times ∙ get-empty route_labels_cmp group in
-      absurd (cc (cached, none));
+  quiet = λ group time cached. absurd (cc (cached, ap (λ (m : Times). get m group) times, get-empty route_labels_cmp group));
   still = λ period cached. absurd (cc (cached, still));
 }
 
@@ -60,15 +56,8 @@ nothing_cached cache times still s = record {
 pub kept_if : {T E : Type 0} (r : Result T E) (cache : QuietGroups) (table : Numbered RouteLabels QuietTime) (group : RouteLabels) (time : QuietTime) (s : State)
     → OnOk r (times_in table ≡ insert (quiet_times cache) group time) → OnErr r (times_in table ≡ quiet_times cache)
     → IsTrueTime cache.generation s group time.period time.generation → IsTrueOf cache s → IsTrueOf (record cache { times = table }) s
-kept_if (Ok x) cache table group time s ok err is holds = record {
-  quiet = λ other its cached. elim (now_cached (quiet_times cache) group time other its (ap (λ (m : Times). get m other) (sym ok) ∙ cached)) [
-    | inl same ↦ subst (λ (x : RouteLabels × QuietTime). IsTrueTime cache.generation s x.0 x.1.period x.1.generation) (λ i. (sym same.0 i, same.1 i)) is
-    | inr before ↦ holds.quiet other its before
-  ];
-  still = holds.still;
-}
-kept_if (Err e) cache table group time s ok err is holds = record {
-  quiet = λ other its cached. holds.quiet other its (ap (λ (m : Times). get m other) (sym err) ∙ cached);
+kept_if r cache table group time s ok err is holds = record {
+  quiet = λ other its cached. grind (arith, now_cached (quiet_times cache) group time other its, holds.quiet other its);
   still = holds.still;
 }
 
@@ -77,16 +66,7 @@ carried : (before now : ℕ) (s t : State) (group : RouteLabels) (period : Perio
     → (group.route < length s.config.routes → now ≡ before → IsQuiet s group period.from period.until → IsQuiet t group period.from period.until)
     → (generation : Option ℕ) → IsTrueTime before s group period generation → IsTrueTime now t group period generation
 carried before now s t group period config later notified quiet None time = notified time
-carried before now s t group period config later notified quiet (Some n) time =
-    let not_later : n ≤ before = time.not_later in
-    record {
-      there = subst (λ (c : Config). group.route < length c.routes) (sym config) time.there;
-      not_later = omega (arith, later, not_later);
-      quiet = λ present.
-          let same : now ≡ before = omega (arith, present, later, not_later) in
-          let then : n ≡ before = present ∙ same in
-          quiet time.there same (time.quiet then);
-    }
+carried before now s t group period config later notified quiet (Some n) time = grind (arith, time, quiet time.there)
 
 -- a cache stays true where all stays true that it may hold
 pub held : (cache : QuietGroups) (s t : State) → t.config ≡ s.config → ((group : RouteLabels) (period : Period) → IsNotifiedIn s group period → IsNotifiedIn t group period)
@@ -111,9 +91,7 @@ outlasted cache next later s t config outlasts holds = record {
 
 -- a period that was noted is still, as was found
 pub noted_still : (s : State) (from until : Moment) (noted period : Period) → noted.from ≡ from → noted.until ≡ until → Some noted ≡ Some period → IsStill s from until → IsStill s period.from period.until
-noted_still s from until noted period first last cached still =
-    let same : noted ≡ period = cc cached in
-    subst (λ (p : Period). IsStill s p.from p.until) same (subst (λ (p : Moment × Moment). IsStill s p.0 p.1) (λ i. (sym first i, sym last i)) still)
+noted_still s from until noted period first last cached still = grind arith
 
 -- ---- a flush
 
@@ -190,12 +168,10 @@ unmuted cache s alerts silences = λ group time cached. beside_notified s s.mome
 
 -- without inhibition rules, stored alerts mute nothing
 ruleless : (at : Moment) (labels : LabelSet) (a b : Alerts) (rules : List InhibitRule) → rules ≡ [] → inhibition_from 0 at labels a rules ≡ inhibition_from 0 at labels b rules
-ruleless at labels a b [] none = refl
-ruleless at labels a b (rule ∷ rules) none = absurd (cc)
+ruleless at labels a b rules none = grind arith
 
 no_sources : (from until : Moment) (alerts : Alerts) (rules : List InhibitRule) → rules ≡ [] → no_source_ends from until rules alerts ≡ true
-no_sources from until alerts [] none = refl
-no_sources from until alerts (rule ∷ rules) none = absurd (cc)
+no_sources from until alerts rules none = grind arith
 
 module _ (s : State) (alerts : Alerts) (none : s.config.rules ≡ []) where
   taken_alike : (at : Moment) (route : ℕ) (labels : LabelSet) → taken_away (record s { alerts = alerts }) at route labels ≡ taken_away s at route labels
@@ -254,16 +230,11 @@ fire_sooner until end sooner ms fire =
     all_weaker (λ (m : LabelSet × Alert). nat_le until m.1.ends_at) (λ m. nat_le end m.1.ends_at) (λ m fires. grind (arith, nat_tests)) ms fire
 
 sooner_repeat : (until end : Moment) → end ≤ until → (interval : Span) (entry : Option LogEntry) → no_repeat_before until interval entry ≡ true → no_repeat_before end interval entry ≡ true
-sooner_repeat until end sooner interval None h = refl
-sooner_repeat until end sooner interval (Some entry) h = grind (arith, nat_tests)
+sooner_repeat until end sooner interval entry h = grind (arith, nat_tests)
 
 module _ (s : State) (group : RouteLabels) (from : Moment) (firing : LabelSets) where
   pub notified_sooner : (until end : Moment) → end ≤ until → (integration : Integration) → is_notified s group from until firing integration ≡ true → is_notified s group from end firing integration ≡ true
-  notified_sooner until end sooner integration notified =
-      let interval : Span = repeat_interval_of s.config group.route in
-      let entry : Option LogEntry = get s.log (log_key_of s.config group integration) in
-      let parts = and_parts (not (needs_update entry firing (labels_of []) integration.send_resolved from interval)) (no_repeat_before until interval entry) notified in
-      (λ i. parts.0 i && sooner_repeat until end sooner interval entry parts.1 i)
+  notified_sooner until end sooner integration notified = grind (arith, sooner_repeat until end sooner)
 
   -- one integration more
   pub all_notified : (end : Moment) (integrations : List Integration) (n : ℕ) (integration : Integration) → n < length integrations → integration ≡ get_or integrations n integration
@@ -313,8 +284,7 @@ no_rules config notified asked b same rules counted none =
     none_left config.rules (ap (λ (rs : List InhibitRule). length rs == 0) (sym (rules ∙ ap (λ (c : Config). c.rules) same)) ∙ sym counted ∙ none)
 
 all_sources : (from until : Moment) (alerts : Alerts) (rules : List InhibitRule) → no_alert_ends from until alerts ≡ true → no_source_ends from until rules alerts ≡ true
-all_sources from until alerts [] still = refl
-all_sources from until alerts (rule ∷ rules) still = still
+all_sources from until alerts rules still = grind arith
 
 -- nothing changes that may mute an alert, if no silence turns and then no alert ends
 pub still_by : (s : State) (from until end : Moment) → end ≤ until → no_silence_turns from until s.silences ≡ true → no_alert_ends from end s.alerts ≡ true → IsStill s from end

@@ -1,11 +1,7 @@
 -- Flushes of quiet groups can be made in any order, so those of one group can all be made first.
-use Rattle.std.specs.Prelude.{◌≡◌, ℕ, zero, suc, Bool, true, false, IsSomeAnd, List, [], ◌∷◌, ◌++◌, Option, Some, None, ◌≤◌, ◌<◌, ◌+◌, ◌-◌, ◌*◌, ◌/◌, map, option_map, ◌||◌, IsTrue, IfSome, nat_lt}
-use Rattle.std.specs.List.{Contains, filter_map, cons_option}
-use Rattle.std.specs.Option.{option_and_then, option_map_or}
-use Rattle.std.specs.Ordering.{eq_by_cmp, is_eq}
-use Rattle.std.proofs.Common.{refl, sym, ap, ◌∙◌, subst, inl, inr, arith}
+use Rattle.std.proofs.Common.{[], ◌≡◌, ℕ, zero, suc, true, IsSomeAnd, List, ◌∷◌, ◌++◌, Option, Some, None, ◌≤◌, ◌<◌, ◌+◌, ◌-◌, ◌*◌, ◌/◌, map, option_map, IsTrue, IfSome, Contains, filter_map, is_eq, mul-le-mul_right, div-add-mod', true≢false, refl, sym, ap, ◌∙◌, subst, arith}
+use Rattle.std.specs.Option.{option_map_or}
 use Rattle.std.proofs.lemmas.Cmp.{tied_itself}
-use Rattle.std.proofs.lemmas.Option.{same_Some}
 use Rattle.amr_labels.specs.Map.{Map, get, insert, entries}
 use Rattle.amr_labels.specs.Labels.{label_set_cmp_total, label_set_cmp-IsAntisymmetric}
 use Rattle.amr_time.specs.Time.{Moment, second, next_multiple_of}
@@ -24,10 +20,9 @@ use Rattle.amr_engine.specs.declared.state.due.Timer.TheVariants as timers
 use Rattle.amr_engine.specs.State.Timed.{IsFirstOfKind}
 use Rattle.amr_tables.specs.Members.{has}
 use Rattle.amr_tables.specs.Places.{value_at}
-use Rattle.amr_tables.specs.Numbered.{Numbered, map_of, number_of, key_at, next_number, IsNumbering}
-use Rattle.amr_tables.proofs.Naming.{key_at_number}
-use Rattle.amr_tables.proofs.Numbering.{get-shown}
-use Rattle.amr_engine.specs.State.Dues.{Due, due_at, due_cmp, due_cmp_total, due_cmp-IsAntisymmetric, dues_of, dues, group_removal_at, alert_removal_of, group_removal_of, flush_of, next_due}
+use Rattle.amr_tables.specs.Numbered.{Numbered, map_of, key_at, next_number, IsNumbering}
+use Rattle.amr_tables.proofs.Naming.{key_at_number, number_of_value, value_at_number}
+use Rattle.amr_engine.specs.State.Dues.{Due, due_at, due_cmp, due_cmp_total, due_cmp-IsAntisymmetric, dues_of, dues, alert_removal_of, group_removal_of, flush_of, next_due}
 use Rattle.amr_engine.specs.Quiet.{with_timer_reset}
 use Rattle.amr_engine.specs.Moves.{move, advance, counted_run, plus_moves}
 use Rattle.amr_engine.specs.Weight.{move_weight, first_weight}
@@ -38,13 +33,9 @@ use Rattle.amr_engine.proofs.Growing.{first_weight-some}
 use Rattle.amr_engine.proofs.Listed.{none_listed, first_or_rest}
 use Rattle.amr_engine.proofs.PlacedLists.{among_entries, get-inserted, get-insert_apart, get-insert_cases, same_or_apart}
 use Rattle.amr_engine.proofs.Lasting.{in_map, in_right, timer_among, removal_at, removal_of, due_holds, next_is_due, some_due}
-use Rattle.std.proofs.Math.Nat.{mul-le-mul_right}
-use Rattle.std.proofs.lemmas.Nat.{div-add-mod'}
 use Rattle.amr_engine.proofs.CachedQuiet.{stays_true}
 use Rattle.amr_engine.proofs.QuietLaws.{quiet_flush, stays_quiet}
 use Rattle.amr_engine.proofs.QuietStays.{apart}
-use Rattle.std.proofs.lemmas.Bool.{true≢false, or_right}
-use Rattle.std.proofs.lemmas.Bool.Decides.{nat_tests}
 use Rattle.std.proofs.lemmas.Map.Views.{tells_apart}
 use Rattle.amr_engine.proofs.StateLemmas.Least.{not_later}
 use Rattle.amr_engine.proofs.StateLemmas.Undoing.{set-set, set-swap}
@@ -140,18 +131,16 @@ module _ (at : Moment) where
   calm_after s group timer next calm timed soon later =
       let new : GroupTimer = record timer { next_flush = next; flushed = true } in
       let t : State = set_at s group timer next in
+      let cases = get-insert_cases route_labels_cmp_total route_labels_cmp-IsAntisymmetric s.timers group new in
       record {
         removed = record {
           of_alerts = calm.removed.of_alerts;
-          of_groups = λ other its removal got is. elim (get-insert_cases route_labels_cmp_total route_labels_cmp-IsAntisymmetric s.timers group new other its got) [
-            | inl same ↦ calm.removed.of_groups group timer removal timed (ap group_removal_at same.1 ∙ is)
-            | inr before ↦ calm.removed.of_groups other its removal before is
-          ];
+          of_groups = λ other its removal got is. grind (arith, cases other its got, calm.removed.of_groups group timer removal timed, calm.removed.of_groups other its removal);
         };
-        flushed = λ other its got due. elim (get-insert_cases route_labels_cmp_total route_labels_cmp-IsAntisymmetric s.timers group new other its got) [
-          | inl same ↦ subst (λ (x : RouteLabels × GroupTimer). IsQuietBeyond at t x.0 x.1) (λ i. (sym same.0 i, same.1 i)) (beyond_after s t.timers group timer new later (calm.flushed group timer timed soon))
-          | inr before ↦ beyond_after s t.timers other its its (omega arith) (calm.flushed other its before due)
-        ];
+        flushed = λ other its got due.
+            let itself : its.next_flush ≤ its.next_flush = omega arith in
+            let own = beyond_after s t.timers group timer new later (calm.flushed group timer timed soon) in
+            grind (arith, cases other its got, own, beyond_after s t.timers other its its itself, calm.flushed other its);
       }
 
   -- ---- the flushes of one group, made first
@@ -176,14 +165,8 @@ module _ (at : Moment) where
   one_first l s group timer calm timed soon beside =
       let d = some_due at group s timer timed soon in
       let first = next_resets s d.0 calm d.1 in
-      advance_some l at s d.0 d.1
-      ∙ ap (λ (t : State). plus_moves (counted_run (advance l at t)) 1) first.made
-      ∙ ap (λ r. plus_moves r 1) (elim (same_or_apart route_labels_cmp_total route_labels_cmp-IsAntisymmetric first.group group) [
-        | inl same ↦
-            let timers : first.timer ≡ timer = same_Some first.timer timer (sym first.timed ∙ ap (get s.timers) same ∙ timed) in
-            λ i. counted_run (advance l at (once s (same i) (timers i)))
-        | inr apart ↦ beside first.group first.timer first.timed first.soon apart.0
-      ])
+      let either = same_or_apart route_labels_cmp_total route_labels_cmp-IsAntisymmetric first.group group in
+      grind (arith, advance_some l at s d.0 d.1, first.made, first.timed, either, beside first.group first.timer first.timed first.soon)
 
   -- any group that is due can be flushed first
   any_first : (l : ℕ) (s : State) (group : RouteLabels) (timer : GroupTimer) → IsCalm at s → get s.timers group ≡ Some timer → timer.next_flush ≤ at
@@ -298,17 +281,9 @@ at_once at s t moment group last calm due is made =
     let set : t ≡ set_at s group g.timer next = made ∙ reset_is last s group g.timer g.timed in
     record {
       calm = subst (IsCalm at) (sym set) (calm_after at s group g.timer next calm g.timed soon later);
-      counted = λ l.
-          let count : k + 1 + l ≡ suc (k + l) = omega arith in
-          let all : suc k ≡ k + 1 = omega arith in
-          ap (λ n. counted_run (advance n at s)) count
-          ∙ all_first at k l s group g.timer calm g.timed late
-          ∙ (λ i. plus_moves (counted_run (advance l at ((ap (set_at s group g.timer) (sym next_is) ∙ sym set) i))) (all i));
+      counted = λ l. grind (arith, all_first at k l s group g.timer calm g.timed late, set, next_is);
       cache = λ cache holds. subst (IsTrueOf cache) (sym set) (stays_true s s.moment (set_at s group g.timer next).timers s.notes cache holds);
     }
-
-le_of : (l k : ℕ) → l < k + 1 → l ≤ k
-le_of l k lt = omega (arith, lt)
 
 pub over_at_once : (at : Moment) (s : State) (moment : Moment) (group : RouteLabels) (l : ℕ) → IsCalm at s → next_due at s ≡ Some (due_at moment (timers.GroupFlush group))
     → l < more_flushes at s moment group + 1 → counted_run (advance l at s) ≡ None
@@ -317,7 +292,8 @@ over_at_once at s moment group l calm due over =
     let interval = group_interval_of s.config group.route in
     let last = last_is at moment interval g.soon in
     let first = g.first in
-    let fewer = mul-le-mul_right interval (le_of l (more_flushes at s moment group) over) in
+    let few : l ≤ more_flushes at s moment group = omega (arith, over) in
+    let fewer = mul-le-mul_right interval few in
     over_first at l s group g.timer calm g.timed (omega (arith, last, first, fewer))
 
 -- ---- what is found of all groups
@@ -331,24 +307,14 @@ AreQuiet at s timers next = (n : ℕ) (group : RouteLabels) (timer : GroupTimer)
 numbered : (t : Numbered RouteLabels GroupTimer) → IsNumbering route_labels_cmp t → (group : RouteLabels) (timer : GroupTimer) → get (map_of route_labels_cmp t) group ≡ Some timer
     → (n : ℕ) × (n < next_number t) × (key_at t n ≡ Some group) × (value_at t.cells n ≡ Some timer)
 numbered t is group timer got =
-    elim (number_of route_labels_cmp t group) as (λ o. number_of route_labels_cmp t group ≡ o → option_and_then (value_at t.cells) o ≡ Some timer
-    → (n : ℕ) × (n < next_number t) × (key_at t n ≡ Some group) × (value_at t.cells n ≡ Some timer)) [
-      | None ↦ λ e h. absurd cc
-      | Some n ↦ λ e h. (n, is.within group n e, key_at_number route_labels_cmp_total route_labels_cmp-IsAntisymmetric t is group n e, h)
-    ] refl (sym (get-shown route_labels_cmp route_labels_cmp_total t group is) ∙ got)
+    let n = number_of_value route_labels_cmp_total route_labels_cmp-IsAntisymmetric t is group timer got in
+    let key = key_at_number route_labels_cmp_total route_labels_cmp-IsAntisymmetric t is group n.0 n.1 in
+    (n.0, is.within group n.0 n.1, key, sym (value_at_number route_labels_cmp_total route_labels_cmp-IsAntisymmetric t is group n.0 n.1) ∙ got)
 
 -- so is the group with the next number
 pub one_more : (at : Moment) (s : State) (timers : Numbered RouteLabels GroupTimer) (next : ℕ) → AreQuiet at s timers next → (group : RouteLabels) (timer : GroupTimer)
     → Some group ≡ key_at timers next → Some timer ≡ value_at timers.cells next → (timer.next_flush ≤ at → IsQuietBeyond at s group timer) → AreQuiet at s timers (next + 1)
-one_more at s timers next quiet group timer named timed here = λ n other its less other_named its_timed due.
-    elim (nat_lt n next) as (λ b. nat_lt n next ≡ b → IsQuietBeyond at s other its) [
-      | true ↦ λ e. let before : n < next = grind (arith, nat_tests) in quiet n other its before other_named its_timed due
-      | false ↦ λ e.
-          let same : n ≡ next = grind (arith, nat_tests) in
-          let group_is : group ≡ other = same_Some group other (named ∙ ap (key_at timers) (sym same) ∙ other_named) in
-          let timer_is : timer ≡ its = same_Some timer its (timed ∙ ap (value_at timers.cells) (sym same) ∙ its_timed) in
-          subst (λ (x : RouteLabels × GroupTimer). IsQuietBeyond at s x.0 x.1) (λ i. (group_is i, timer_is i)) (here (subst (λ (t : GroupTimer). t.next_flush ≤ at) (sym timer_is) due))
-    ] refl
+one_more at s timers next quiet group timer named timed here = λ n other its less other_named its_timed due. grind (arith, quiet n other its)
 
 pub calm_if_quiet : (at : Moment) (s : State) (timers : Numbered RouteLabels GroupTimer) → IsNumbering route_labels_cmp timers → map_of route_labels_cmp timers ≡ s.timers
     → AreNoneRemoved at s.alerts s.timers → AreQuiet at s timers (next_number timers) → IsCalm at s
@@ -361,8 +327,7 @@ calm_if_quiet at s timers is shown removed quiet = record {
 -- ---- each move has a weight
 
 weighs : (s : State) (d : Due) (kind : Kind) → 1 ≤ move_weight s d kind
-weighs s d AlertRemoval = omega arith
-weighs s d kind = omega arith
+weighs s d kind = grind arith
 
 module _ (at : Moment) where
   -- as many moves as were counted, or as the limit if there are more
@@ -371,58 +336,36 @@ module _ (at : Moment) where
   Weighs l s (Some run) = run.0 ≤ first_weight l at s
 
   pub moves_weigh : (l : ℕ) (s : State) → Weighs l s (counted_run (advance l at s))
-  moves_weigh = counted_holds at Weighs (λ l s e. omega arith) (λ s d e. omega arith) more
-    where
-      more : (l : ℕ) (s : State) (d : Due) (r : Option (ℕ × State)) → next_due at s ≡ Some d → Weighs l (move d s) r → Weighs (suc l) s (plus_moves r 1)
-      more l s d None e w = omega (arith, w, first_weight-some l at s d e, weighs s d d.kind)
-      more l s d (Some run) e w = omega (arith, w, first_weight-some l at s d e, weighs s d d.kind)
+  moves_weigh = counted_holds at Weighs (λ l s e. omega arith) (λ s d e. omega arith) (λ l s d r e w. grind (arith, first_weight-some l at s d e, weighs s d d.kind))
 
 -- ---- that nothing is removed
 
 in_left : (d : Due) (xs ys : List Due) → IsIn d xs → IsIn d (xs ++ ys)
 in_left d [] ys h = absurd h
-in_left d (x ∷ xs) ys (inl e) = inl e
-in_left d (x ∷ xs) ys (inr h) = inr (in_left d xs ys h)
+in_left d (x ∷ xs) ys h = grind (arith, in_left d xs ys)
 
 in_filter_map : {A : Type 0} (f : A → Option Due) (e : A) (d : Due) (es : List A) → Contains es e → f e ≡ Some d → IsIn d (filter_map f es)
 in_filter_map f e d [] h is = absurd (none_listed e h)
-in_filter_map f e d (x ∷ es) h is = elim (first_or_rest x e es h) [
-  | inl same ↦ subst (λ o. IsIn d (cons_option o (filter_map f es))) (sym is ∙ ap f (sym same)) (inl refl)
-  | inr rest ↦ by (f x) (in_filter_map f e d es rest is)
-]
-  where
-    by : (o : Option Due) → IsIn d (filter_map f es) → IsIn d (cons_option o (filter_map f es))
-    by None rest = rest
-    by (Some y) rest = inr rest
+in_filter_map f e d (x ∷ es) h is = grind (arith, first_or_rest x e es h, in_filter_map f e d es)
 
 has_in : (d : Due) (dues : List Due) → IsIn d dues → IsTrue (has due_cmp dues d)
 has_in d [] h = absurd h
-has_in d (x ∷ dues) (inl same) = ap (λ y. eq_by_cmp due_cmp d y || has due_cmp dues d) (sym same) ∙ ap (λ o. is_eq o || has due_cmp dues d) (tied_itself due_cmp_total d)
-has_in d (x ∷ dues) (inr h) = or_right (eq_by_cmp due_cmp d x) (has due_cmp dues d) (has_in d dues h)
+has_in d (x ∷ dues) h = grind (arith, has_in d dues, tied_itself due_cmp_total d)
 
 -- if the first timer of a kind is after the moment, all of the kind are
 after_first : (at : Moment) (kind : Kind) (dues : List Due) (first : Option Due) → IsFirstOfKind kind dues first → IfSome first (λ due. at < due.moment)
     → (d : Due) → d.kind ≡ kind → IsIn d dues → at < d.moment
-after_first at kind dues None is later d same among = absurd (true≢false (sym (has_in d dues among) ∙ is d same))
-after_first at kind dues (Some first) is later d same among =
-    let first_is : first.moment ≤ d.moment = not_later first d (is.1.1 d same (has_in d dues among)) in
-    omega (arith, later, first_is)
+after_first at kind dues first is later d same among = grind (arith, has_in d dues among, not_later)
 
 in_has : (d : Due) (dues : List Due) → IsTrue (has due_cmp dues d) → IsIn d dues
 in_has d [] h = absurd (true≢false (sym h))
-in_has d (x ∷ dues) h = by (eq_by_cmp due_cmp d x) refl h (in_has d dues)
-  where
-    by : (b : Bool) → eq_by_cmp due_cmp d x ≡ b → IsTrue (b || has due_cmp dues d) → (IsTrue (has due_cmp dues d) → IsIn d dues) → IsIn d (x ∷ dues)
-    by true is e rest = inl (tells_apart due_cmp-IsAntisymmetric d x is)
-    by false is e rest = inr (rest e)
+in_has d (x ∷ dues) h = grind (arith, in_has d dues, tells_apart due_cmp-IsAntisymmetric d x)
 
 -- the first removal of a kind isn't due, if nothing is removed up to the moment
 pub first_is_later : (at : Moment) (alerts : Alerts) (timers : Timers) (kind : Kind) (first : Option Due) → AreNoneRemoved at alerts timers → (kind ≡ GroupFlush → ⊥)
     → IsFirstOfKind kind (dues_of alerts timers) first → IsSomeAnd first (λ due. due.moment ≤ at) → ⊥
 first_is_later at alerts timers kind None none removal is due = due
-first_is_later at alerts timers kind (Some d) none removal is due =
-    let later = removed_later at alerts timers none d (λ flush. removal (sym is.0 ∙ flush)) (in_has d (dues_of alerts timers) is.1.0) in
-    omega (arith, later, due)
+first_is_later at alerts timers kind (Some d) none removal is due = grind (arith, removed_later at alerts timers none d, in_has d (dues_of alerts timers) is.1.0)
 
 pub none_removed : (at : Moment) (alerts : Alerts) (timers : Timers) (alert group : Option Due) → IsFirstOfKind AlertRemoval (dues_of alerts timers) alert
     → IsFirstOfKind GroupRemoval (dues_of alerts timers) group → IfSome alert (λ due. at < due.moment) → IfSome group (λ due. at < due.moment) → AreNoneRemoved at alerts timers
@@ -435,18 +378,13 @@ none_removed at alerts timers alert group first_alert first_group later_alert la
       (in_left d (map alert_removal_of (entries alerts)) (filter_map group_removal_of (entries timers)) (in_map alert_removal_of (labels, stored) (entries alerts) among)));
   of_groups = λ key timer removal got is.
       let d : Due = removal_at key removal in
+      let same : group_removal_of (key, timer) ≡ Some d = removal_is key timer removal timer.empty_since is in
       after_first at GroupRemoval (dues_of alerts timers) group first_group later_group d refl
       (in_left d (map alert_removal_of (entries alerts) ++ filter_map group_removal_of (entries timers)) (map flush_of (entries timers))
       (in_right d (map alert_removal_of (entries alerts)) (filter_map group_removal_of (entries timers))
-      (in_filter_map group_removal_of (key, timer) d (entries timers) (timer_among timers key timer got) (removal_is key timer removal is))));
+      (in_filter_map group_removal_of (key, timer) d (entries timers) (timer_among timers key timer got) same)));
 }
   where
-    removal_is : (key : RouteLabels) (timer : GroupTimer) (removal : Moment) → group_removal_at timer ≡ Some removal
-        → group_removal_of (key, timer) ≡ Some (removal_at key removal)
-    removal_is key timer removal is = by timer.empty_since is
-      where
-        by : (o : Option Moment) → option_map (λ since. next_multiple_of since (30 * second)) o ≡ Some removal
-            → option_map (removal_of key) o
-            ≡ Some (removal_at key removal)
-        by None is = absurd (cc)
-        by (Some since) is = ap (option_map (removal_at key)) is
+    removal_is : (key : RouteLabels) (timer : GroupTimer) (removal : Moment) (o : Option Moment) → option_map (λ since. next_multiple_of since (30 * second)) o ≡ Some removal
+        → option_map (removal_of key) o ≡ Some (removal_at key removal)
+    removal_is key timer removal o is = grind arith

@@ -1,7 +1,6 @@
 -- The moves of an event, counted one after another.
-use Rattle.std.proofs.Common.{◌≡◌, false, ℕ, suc, zero, ◌+◌, ◌-◌, ◌<◌, ◌≤◌, List, [], Option, None, Some, refl, sym, ap, subst, ◌∙◌, arith}
+use Rattle.std.proofs.Common.{[], ◌≡◌, false, ℕ, suc, zero, ◌+◌, ◌-◌, ◌<◌, ◌≤◌, List, Option, None, Some, refl, sym, ap, subst, ◌∙◌, arith}
 use Rattle.std.specs.Option.{option_map, option_map_or, is_some}
-use Rattle.std.proofs.lemmas.Bool.{true≢false}
 use Rattle.amr_time.specs.Time.{Moment}
 use Rattle.amr_engine.specs.State.State.{State}
 use Rattle.amr_engine.specs.Runs.{after_step}
@@ -18,8 +17,7 @@ pub advance_over : (at : Moment) (s : State) (d : Due) → next_due at s ≡ Som
 advance_over at s d e = ap (λ (o : Option Due). counted_run (option_map_or (λ d. None) o (Some ([], s)))) e
 
 one_longer : (d : Due) (r : Option (List Due × State)) (at : Moment) → counted_run (option_map (after_step (next_due at) move d) r) ≡ plus_moves (counted_run r) 1
-one_longer d None at = refl
-one_longer d (Some r) at = ap (λ k. Some (k, r.1)) (omega arith)
+one_longer d r at = grind arith
 
 pub advance_some : (n : ℕ) (at : Moment) (s : State) (d : Due) → next_due at s ≡ Some d → counted_run (advance (suc n) at s) ≡ plus_moves (counted_run (advance n at (move d s))) 1
 advance_some n at s d e =
@@ -35,38 +33,30 @@ counted_holds at P none over more =
     run_holds (next_due at) move (λ l s o. P l s (counted_run o)) none over (λ l s d o e rest. subst (P (suc l) s) (sym (one_longer d o at)) (more l s d (counted_run o) e rest))
 
 pub plus_twice : (r : Option (ℕ × State)) (m n : ℕ) → plus_moves (plus_moves r m) n ≡ plus_moves r (n + m)
-plus_twice None m n = refl
-plus_twice (Some r) m n = ap (λ k. Some (k, r.1)) (omega arith)
+plus_twice r m n = grind arith
 
 pub plus_none : (r : Option (ℕ × State)) → plus_moves r 0 ≡ r
-plus_none None = refl
-plus_none (Some r) = ap (λ k. Some (k, r.1)) (omega arith)
+plus_none r = grind arith
 
 -- one more move keeps the count
 pub goes_on : (limit made : ℕ) (at : Moment) (s before : State) (d : Due) → counted_run (advance limit at before) ≡ plus_moves (counted_run (advance (limit - made) at s)) made
     → made < limit → Some d ≡ next_due at s → counted_run (advance limit at before) ≡ plus_moves (counted_run (advance (limit - (made + 1)) at (move d s))) (made + 1)
 goes_on limit made at s before d so_far less some =
     let one : limit - made ≡ suc (limit - (made + 1)) = omega arith in
-    so_far ∙ ap (λ n. plus_moves (counted_run (advance n at s)) made) one
-    ∙ ap (λ r. plus_moves r made) (advance_some (limit - (made + 1)) at s d (sym some))
-    ∙ plus_twice (counted_run (advance (limit - (made + 1)) at (move d s))) 1 made
+    grind (arith, one, advance_some (limit - (made + 1)) at s d (sym some), plus_twice (counted_run (advance (limit - (made + 1)) at (move d s))) 1 made)
 
 -- nothing more is due after this many moves
 pub stops : (limit made : ℕ) (at : Moment) (s before : State) → counted_run (advance limit at before) ≡ plus_moves (counted_run (advance (limit - made) at s)) made
     → None ≡ next_due at s → Some (made, s) ≡ counted_run (advance limit at before)
-stops limit made at s before so_far none =
-    sym (so_far ∙ ap (λ r. plus_moves r made) (advance_none (limit - made) at s (sym none)) ∙ ap (λ k. Some (k, s)) (omega arith))
+stops limit made at s before so_far none = grind (arith, advance_none (limit - made) at s (sym none))
 
 -- the limit is reached, and something is still due
 pub is_over : (limit made : ℕ) (at : Moment) (s before : State) (d : Due) → counted_run (advance limit at before) ≡ plus_moves (counted_run (advance (limit - made) at s)) made
     → limit ≤ made → Some d ≡ next_due at s → None ≡ counted_run (advance limit at before)
-is_over limit made at s before d so_far all some =
-    let none_left : limit - made ≡ 0 = omega arith in
-    sym (so_far ∙ ap (λ n. plus_moves (counted_run (advance n at s)) made) none_left ∙ ap (λ r. plus_moves r made) (advance_over at s d (sym some)))
+is_over limit made at s before d so_far all some = grind (arith, advance_over at s d (sym some))
 
 pub no_value : {A : Type 0} (o r : Option A) → o ≡ r → false ≡ is_some o → None ≡ r
-no_value None r e h = e
-no_value (Some x) r e h = absurd (true≢false (sym h))
+no_value o r e h = grind arith
 
 pub limit_is : move_limit ≡ 1_000_000
 unfolding move_limit
@@ -74,6 +64,4 @@ limit_is = refl
 
 -- before the first move
 pub begins : (limit : ℕ) (at : Moment) (s : State) → counted_run (advance limit at s) ≡ plus_moves (counted_run (advance (limit - 0) at s)) 0
-begins limit at s =
-    let all : limit ≡ limit - 0 = omega arith in
-    ap (λ n. counted_run (advance n at s)) all ∙ sym (plus_none (counted_run (advance (limit - 0) at s)))
+begins limit at s = grind (arith, plus_none (counted_run (advance limit at s)))

@@ -1,11 +1,8 @@
 -- How many members a reload makes: one for each stored alert and each of its chosen routes.
-use Rattle.std.specs.Prelude.{◌≡◌, ℕ, zero, suc, Bool, true, false, T, List, [], ◌∷◌, None, is_some, cond, length, ◌+◌, ◌≤◌}
+use Rattle.std.proofs.Common.{[], ◌≡◌, ℕ, zero, suc, Bool, T, List, ◌∷◌, None, is_some, cond, length, ◌+◌, ◌≤◌, Ordering, Less, Equal, refl, sym, ap, ◌∙◌, arith}
 use Rattle.std.specs.List.{fold, filter, range_with_len}
-use Rattle.std.specs.declared.cmp.Ordering.{Ordering}
-use Rattle.std.specs.declared.cmp.Ordering.TheVariants.{Less, Equal}
 use Rattle.std.specs.Cmp.{IsTotalOrder}
 use Rattle.std.specs.FinMap.Entries.{is_sorted, below_all, length-put}
-use Rattle.std.proofs.Common.{refl, sym, ap, ◌∙◌, arith}
 use Rattle.std.proofs.lemmas.Cmp.{tied_itself}
 use Rattle.std.proofs.lemmas.List.Sums.{sum_by-cons}
 use Rattle.amr_labels.proofs.Sorted.{first, second, less}
@@ -44,18 +41,11 @@ module _ (p : ℕ → Bool) (labels : LabelSet) (alert : Alert) where
   placed_len : (n from : ℕ) (s : State) → IsFree s labels from → len (placed s from n).placements ≡ len s.placements + length (filter p (range_with_len from n))
   placed_len zero from s free = omega arith
   placed_len (suc n) from s free =
-      elim (p from) as (λ b. len (fold (insert_into_group labels alert) s (cond b (from ∷ filter p (range_with_len (from + 1) n)) (filter p (range_with_len (from + 1) n)))).placements
-      ≡ len s.placements + length (cond b (from ∷ filter p (range_with_len (from + 1) n)) (filter p (range_with_len (from + 1) n)))) [
-        | true ↦
-            let next : State = insert_into_group labels alert s from in
-            let free_next : IsFree next labels (from + 1) = λ route le.
-            still_free s labels alert from (on_route route labels)
-            (λ e. let same : route ≡ from = ap (λ (x : RouteLabels). x.route) e in omega (arith, same, le)) (free route (omega (arith, le))) in
-            placed_len n (from + 1) next free_next
-            ∙ ap (λ k. k + length (filter p (range_with_len (from + 1) n))) (longer route_labels_cmp_total s.placements (on_route from labels) alert (free from (omega arith)))
-            ∙ omega arith
-        | false ↦ placed_len n (from + 1) s (λ route le. free route (omega (arith, le)))
-      ]
+      let next : State = insert_into_group labels alert s from in
+      let free_next : IsFree next labels (from + 1) = λ route le.
+      still_free s labels alert from (on_route route labels) (λ e. let same : route ≡ from = ap (λ (x : RouteLabels). x.route) e in omega (arith, same, le)) (free route (omega (arith, le))) in
+      let one = longer route_labels_cmp_total s.placements (on_route from labels) alert (free from (omega arith)) in
+      grind (arith, one, placed_len n (from + 1) next free_next, placed_len n (from + 1) s (λ route le. free route (omega (arith, le))))
 
 pub insert_into_groups-config : (s : State) (alert : LabelSet × Alert) → (insert_into_groups s alert).config ≡ s.config
 insert_into_groups-config s alert = ap (λ (x : State). x.config) (inserted_is s alert.0 alert.1)

@@ -1,6 +1,5 @@
 -- The outcome of an event, case by case.
-use Rattle.std.proofs.Common.{◌≡◌, true, false, ℕ, List, [], Option, None, Some, Result, Ok, Err, length, drop, refl, sym, ap, subst, ◌∙◌}
-use Rattle.std.specs.Prelude.{if◌then◌else◌, nat_lt}
+use Rattle.std.proofs.Common.{if◌then◌else◌, nat_lt, [], ◌≡◌, true, false, ℕ, List, Option, None, Some, Ok, Err, length, drop, refl, ap, subst, ◌∙◌, arith}
 use Rattle.amr_time.specs.Time.{Moment}
 use Rattle.amr_events.specs.Posts.Reasons.{Reason, reason_number}
 use Rattle.amr_events.specs.Actions.Events.{Event, Act, is_label}
@@ -8,7 +7,7 @@ use Rattle.amr_events.specs.Actions.Acts.{event_at}
 use Rattle.amr_engine.specs.State.State.{State}
 use Rattle.amr_engine.specs.State.Dues.{Due, next_due}
 use Rattle.amr_engine.specs.Moves.{move, advance}
-use Rattle.amr_engine.specs.Events.{do_event, after_event, outcome_of, outcome_from, skipped_of, judge, finish, after_act, at_moment, on_ok, move_limit}
+use Rattle.amr_engine.specs.Events.{do_event, after_event, outcome_of, skipped_of, judge, finish, after_act, at_moment, move_limit}
 use Rattle.amr_engine.specs.Outcomes.{acceptance, refusal}
 use Rattle.amr_engine.specs.Applied.{ComesTo, run_moved}
 use Rattle.amr_engine.specs.Prepared.{IsPrepared, DoesAsPrepared, Stays, after_prepared, skipped_by}
@@ -16,25 +15,19 @@ use Rattle.amr_engine.specs.declared.prepare.Prepared as prepare
 use Rattle.amr_events.specs.declared.posts.reason.Reason as code
 use Rattle.amr_engine.proofs.RunsLaws.{run_within-sound}
 use Rattle.amr_engine.proofs.MovesLaws.{do_within-act, do_within-label}
-use Rattle.amr_engine.proofs.TickLaws.{Judged, advances_keep}
+use Rattle.amr_engine.proofs.TickLaws.{advances_keep}
 
 -- a refused event doesn't change the state
 pub is_refused : (s : State) (event : Event) (reason : Reason) → do_event s event ≡ Err reason → ComesTo s event s (refusal reason)
 unfolding after_event outcome_of
-is_refused s event reason e = record {
-  state = sym (ap (λ (r : Result (List Due × State) Reason). elim r [ Ok done ↦ done.1 | Err reason ↦ s ]) e);
-  outcome = sym (ap (outcome_from s event) e);
-}
+is_refused s event reason e = grind arith
 
 -- an accepted event
 pub is_accepted : (s : State) (event : Event) (moves : List Due) (end : State) (count : ℕ) (skipped : List ℕ)
     → do_event s event ≡ Ok (moves, end) → count ≡ length moves → skipped ≡ skipped_of (at_moment event.at s) event.act
     → ComesTo s event end (acceptance count (drop (length s.notes) end.notes) skipped)
 unfolding after_event outcome_of
-is_accepted s event moves end count skipped e counted left = record {
-  state = sym (ap (λ (r : Result (List Due × State) Reason). elim r [ Ok done ↦ done.1 | Err reason ↦ s ]) e);
-  outcome = ap (λ n. acceptance n (drop (length s.notes) end.notes) skipped) counted ∙ ap (acceptance (length moves) (drop (length s.notes) end.notes)) left ∙ sym (ap (outcome_from s event) e);
-}
+is_accepted s event moves end count skipped e counted left = grind arith
 
 -- the event is before the clock
 pub past : (s : State) (event : Event) → is_label event.act ≡ false → nat_lt event.at s.moment ≡ true → do_event s event ≡ Err 20
@@ -45,8 +38,7 @@ not_past s event no_label h = do_within-act move_limit s event no_label ∙ ap (
 
 -- the moves of a run, if it ends within the limit
 pub none_run : (at : Moment) (o : Option (List Due × State)) → None ≡ run_moved at o → o ≡ None
-none_run at None e = refl
-none_run at (Some r) e = absurd (cc)
+none_run at o e = grind arith
 
 pub record Ran (at : Moment) (run : Option (List Due × State)) (count : ℕ) (next : State) : Type 0 where
   pub moves : List Due
@@ -66,11 +58,7 @@ pub stays : (s : State) (at : Moment) (count : ℕ) (next : State) → Some (cou
 stays s at count next ran =
     let r = some_run at (advance move_limit at s) count next ran in
     let kept = advances_keep at r.moves s r.moved (run_within-sound (next_due at) move move_limit s r.moves r.moved r.ran).0 in
-    record {
-      silences = ap (λ (x : State). x.silences) r.ends ∙ ap (λ (by : Judged). by.0) kept;
-      config = ap (λ (x : State). x.config) r.ends ∙ ap (λ (by : Judged). by.1) kept;
-      moment = ap (λ (x : State). x.moment) r.ends;
-    }
+    grind (arith, kept, r.ends)
 
 module _ (s : State) (event : Event) (at : Moment) (act : Act) (at_is : at ≡ event.at) (act_is : act ≡ event.act) (no_label : is_label act ≡ false) (h : nat_lt at s.moment ≡ false) where
   the_event : event_at at act ≡ event
@@ -99,11 +87,9 @@ module _ (s : State) (event : Event) (at : Moment) (act : Act) (at_is : at ≡ e
   done_after_moves prepared count next done skipped does ran acted left =
       let r = some_run at (advance move_limit at s) count next ran in
       let kept = stays s at count next ran in
+      let event_done : do_event s (event_at at act) ≡ Ok (r.moves, done) = grind (arith, judged prepared does, r.ran, r.ends, does.does next kept) in
       subst (λ (e : Event). ComesTo s e done (acceptance count (drop (length s.notes) done.notes) skipped)) the_event
-      (is_accepted s (event_at at act) r.moves done count skipped
-      (judged prepared does ∙ ap (finish (event_at at act)) r.ran ∙ ap (λ (x : State). on_ok (λ end. (r.moves, end)) (after_act x act)) (sym r.ends)
-      ∙ ap (on_ok (λ end. (r.moves, end))) (does.does next kept ∙ ap (λ (x : State). Ok x) (sym acted)))
-      r.counted (left ∙ does.skips next kept))
+      (is_accepted s (event_at at act) r.moves done count skipped event_done r.counted (left ∙ does.skips next kept))
 
 -- an event before the clock
 pub past_refused : (s : State) (event : Event) → is_label event.act ≡ false → nat_lt event.at s.moment ≡ true → ComesTo s event s (refusal 20)
@@ -111,8 +97,7 @@ past_refused s event no_label h = is_refused s event 20 (past s event no_label h
 
 -- no alert is skipped at a label
 pub none_skipped : (s : State) (act : Act) → is_label act ≡ true → [] ≡ skipped_of s act
-none_skipped s (Act.Label text) h = refl
-none_skipped s act h = absurd (cc)
+none_skipped s act h = grind arith
 
 -- a label
 pub label_accepted : (s : State) (event : Event) (skipped : List ℕ) → is_label event.act ≡ true → skipped ≡ [] → ComesTo s event s (acceptance 0 (drop (length s.notes) s.notes) skipped)

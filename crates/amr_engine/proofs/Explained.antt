@@ -1,8 +1,6 @@
 -- An alert that is explained as `Told` is in a notification, if all of the log was notified.
-use Rattle.std.specs.Prelude.{◌≡◌, ℕ, Bool, true, false, List, [], ◌∷◌, Option, Some, None, IsSomeAnd, if◌then◌else◌, option_map, unwrap_or}
+use Rattle.std.proofs.Common.{[], ◌≡◌, ℕ, Bool, List, ◌∷◌, Option, Some, None, IsSomeAnd, if◌then◌else◌, option_map, unwrap_or, Contains, flat_map, refl, arith}
 use Rattle.std.specs.Option.{option_or, option_map_or}
-use Rattle.std.specs.List.{Contains, flat_map}
-use Rattle.std.proofs.Common.{refl, ap, subst, inl, inr}
 use Rattle.std.proofs.lemmas.Bool.{cond_both}
 use Rattle.amr_labels.specs.Map.{get}
 use Rattle.amr_labels.specs.Set.{contains}
@@ -35,16 +33,14 @@ abbrev IsNoTold : Option Finding → Type 0
 IsNoTold found = (at : Moment) → found ≡ Some (Told at) → ⊥
 
 neither : (o p : Option Finding) → IsNoTold o → IsNoTold p → IsNoTold (option_or o p)
-neither None p first later = later
-neither (Some found) p first later = first
+neither o p first later = grind arith
 
 -- a test between two, and what is made of a value
 tested : (b : Bool) (o p : Option Finding) → IsNoTold o → IsNoTold p → IsNoTold (if b then o else p)
 tested b o p if_true if_false = cond_both b o p IsNoTold (λ _. if_true) (λ _. if_false)
 
 made : {A : Type 0} (f : A → Finding) → ((x : A) → IsNoTold (Some (f x))) → (o : Option A) → IsNoTold (option_map f o)
-made f others None at e = absurd (cc)
-made f others (Some x) at e = others x at e
+made f others o = grind arith
 
 waiting_is_none : (timer : GroupTimer) → IsNoTold (waiting timer)
 waiting_is_none timer = tested timer.flushed None (Some (Waiting timer.next_flush)) (λ at e. absurd (cc)) (λ at e. absurd (cc))
@@ -58,17 +54,14 @@ stage_is_none s now route labels =
     (made Silenced (λ id at e. absurd (cc)) (silencer_of now labels s.silences))))
 
 last_one : (o : Option Finding) (last : Finding) (at : Moment) → IsNoTold o → unwrap_or o last ≡ Told at → last ≡ Told at
-last_one None last at none e = e
-last_one (Some found) last at none e = absurd (none at (ap (λ (x : Finding). Some x) e))
+last_one o last at none e = grind arith
 
 -- ---- the log says it, and its entry has a notification
 
 module _ (s : State) (labels : LabelSet) (notified : LogIsNotified s) where
   entry_told : (key : LogKey) (timer : GroupTimer) (at : Moment) (entry : LogEntry) (b : Bool) → get s.log key ≡ Some entry → contains entry.firing labels ≡ b
       → (if b then Told entry.time else Due timer.next_flush) ≡ Told at → HasNotification s.notes at key labels
-  entry_told key timer at entry true is fires e =
-      let same : entry.time ≡ at = cc in subst (λ t. HasNotification s.notes t key labels) same (notified key entry labels is fires)
-  entry_told key timer at entry false is fires e = absurd (cc)
+  entry_told key timer at entry b is fires e = grind (arith, notified key entry labels)
 
   log_told : (key : LogKey) (timer : GroupTimer) (at : Moment) (o : Option LogEntry) → get s.log key ≡ o → finding_of_entry labels timer o ≡ Told at → HasNotification s.notes at key labels
   log_told key timer at None is e = absurd (cc)
@@ -98,13 +91,7 @@ module _ (s : State) (labels : LabelSet) (notified : LogIsNotified s) where
   verdict_told : (chosen_route : ℕ) (timer : GroupTimer) (asked_of : Option Integration) (route : ℕ) (receiver : Text) (integration : Option (Text × ℕ)) (at : Moment)
       → verdict_at s (on_route chosen_route (group_of s.config chosen_route labels)) labels timer asked_of ≡ AtRoute route receiver integration (Told at)
       → AtIntegration route receiver integration at
-  verdict_told chosen_route timer asked_of route receiver integration at e =
-      let group : RouteLabels = on_route chosen_route (group_of s.config chosen_route labels) in
-      let routes : chosen_route ≡ route = cc in
-      let receivers : receiver_name_of s.config chosen_route ≡ receiver = cc in
-      let integrations : option_map kind_and_place asked_of ≡ integration = cc in
-      let found : finding s group labels asked_of timer ≡ Told at = cc in
-      subst (λ (x : ℕ × Text × Option (Text × ℕ)). AtIntegration x.0 x.1 x.2 at) (λ i. (routes i, receivers i, integrations i)) (finding_told chosen_route timer at asked_of found)
+  verdict_told chosen_route timer asked_of route receiver integration at e = grind (arith, finding_told chosen_route timer at asked_of)
 
   group_told : (chosen_route : ℕ) (o : Option GroupTimer) (route : ℕ) (receiver : Text) (integration : Option (Text × ℕ)) (at : Moment)
       → Contains (option_map_or (verdicts_of_group s (on_route chosen_route (group_of s.config chosen_route labels)) labels) o []) (AtRoute route receiver integration (Told at))
@@ -122,17 +109,12 @@ module _ (s : State) (labels : LabelSet) (notified : LogIsNotified s) where
 
   no_other : (other : Verdict) → ((route : ℕ) (receiver : Text) (integration : Option (Text × ℕ)) (at : Moment) → other ≡ AtRoute route receiver integration (Told at) → ⊥) → ToldIsNotified s labels (other ∷ [])
   no_other other differs = λ route receiver integration at listed.
-      elim (first_or_rest other (AtRoute route receiver integration (Told at)) [] listed) [
-        | inl same ↦ absurd (differs route receiver integration at same)
-        | inr none ↦ absurd (none_listed (AtRoute route receiver integration (Told at)) none)
-      ]
+      grind (arith, first_or_rest other (AtRoute route receiver integration (Told at)) [] listed, none_listed (AtRoute route receiver integration (Told at)), differs route receiver integration at)
 
   stored_told : (o : Option Alert) → ToldIsNotified s labels (verdicts_of_stored s labels o)
   stored_told None = no_other Unknown (λ route receiver integration at e. absurd (cc))
-  stored_told (Some alert) = elim (is_resolved_at s.moment alert) as (λ b. ToldIsNotified s labels (if b then Ended ∷ [] else flat_map (verdicts_at s labels) (chosen_routes s.config labels))) [
-    | true ↦ no_other Ended (λ route receiver integration at e. absurd (cc))
-    | false ↦ routes_told (chosen_routes s.config labels)
-  ]
+  stored_told (Some alert) = cond_both (is_resolved_at s.moment alert) (Ended ∷ []) (flat_map (verdicts_at s labels) (chosen_routes s.config labels)) (ToldIsNotified s labels)
+      (λ _. no_other Ended (λ route receiver integration at e. absurd (cc))) (λ _. routes_told (chosen_routes s.config labels))
 
   pub told_is_notified : ToldIsNotified s labels (verdicts s labels)
   unfolding verdicts

@@ -1,8 +1,6 @@
 -- Who was notified of some members needn't be notified of fewer.
-use Rattle.std.specs.Prelude.{◌≡◌, Bool, true, false, not, ◌&&◌, ◌||◌, List, [], ◌∷◌, Option, Some, None, map, nat_lt, ◌+◌}
+use Rattle.std.proofs.Common.{[], ◌≡◌, Bool, true, false, List, ◌∷◌, Option, map, refl, sym, ◌∙◌, arith}
 use Rattle.std.specs.List.{list_all, filter}
-use Rattle.std.proofs.Common.{refl, sym, ap, ◌∙◌}
-use Rattle.std.proofs.lemmas.Bool.{and_parts, not-true}
 use Rattle.std.proofs.lemmas.List.Elements.{All-filter}
 use Rattle.std.proofs.lemmas.List.Folds.{list_all-map}
 use Rattle.std.proofs.lemmas.List.Sums.{AllPass-from_list_all, list_all-from_AllPass}
@@ -19,7 +17,7 @@ use Rattle.amr_rules.proofs.Subsets.{all_in, some_listed}
 use Rattle.amr_config.specs.declared.route_labels.RouteLabels.{RouteLabels}
 use Rattle.amr_engine.specs.State.State.{State}
 use Rattle.amr_engine.specs.Flush.{Members, labels_of, log_key_of}
-use Rattle.amr_engine.specs.Quiet.{no_repeat_before, is_notified, are_notified}
+use Rattle.amr_engine.specs.Quiet.{is_notified, are_notified}
 
 -- a test of a list that follows from another for each item
 pub all_weaker : {X : Type 0} (p q : X → Bool) → ((x : X) → p x ≡ true → q x ≡ true) → (xs : List X) → list_all p xs ≡ true → list_all q xs ≡ true
@@ -44,30 +42,18 @@ some_labels m ms = some_listed m.0 (map (λ member. member.0) ms)
 
 -- ---- the dedup check
 
-unchanged : (all all_fewer none none_fewer ended late : Bool) → none ≡ false → none_fewer ≡ false → (all ≡ true → all_fewer ≡ true)
-    → (not all || (none && ended) || (not none && late)) ≡ false → (not all_fewer || (none_fewer && ended) || (not none_fewer && late)) ≡ false
-unchanged false all_fewer none none_fewer ended late some some_fewer then kept = absurd (cc)
-unchanged true all_fewer true none_fewer ended late some some_fewer then kept = absurd (cc)
-unchanged true all_fewer false true ended late some some_fewer then kept = absurd (cc)
-unchanged true all_fewer false false ended late some some_fewer then kept = ap (λ b. not b || (false && ended) || (not false && late)) (then refl) ∙ kept
-
 fewer_fire : (entry : Option LogEntry) (firing less resolved : LabelSets) (send_resolved : Bool) (now : Moment) (interval : Span) → is_empty firing ≡ false → is_empty less ≡ false
     → ((found : LabelSets) → is_subset firing found ≡ true → is_subset less found ≡ true)
     → needs_update entry firing resolved send_resolved now interval ≡ false → needs_update entry less resolved send_resolved now interval ≡ false
 unfolding needs_update
-fewer_fire None firing less resolved send_resolved now interval some some_fewer then kept = absurd (cc (ap not some, kept))
-fewer_fire (Some entry) firing less resolved send_resolved now interval some some_fewer then kept =
-    unchanged (is_subset firing entry.firing) (is_subset less entry.firing) (is_empty firing) (is_empty less) (not (is_empty entry.firing))
-    ((send_resolved && not (is_subset resolved entry.resolved)) || nat_lt (entry.time + interval) now) some some_fewer (then entry.firing) kept
+fewer_fire entry firing less resolved send_resolved now interval some some_fewer then kept = grind arith
 
 module _ (s : State) (group : RouteLabels) (from until : Moment) (firing fewer_firing : LabelSets) (some : is_empty firing ≡ false) (some_fewer : is_empty fewer_firing ≡ false)
     (then : (found : LabelSets) → is_subset firing found ≡ true → is_subset fewer_firing found ≡ true) where
   one_notified : (integration : Integration) → is_notified s group from until firing integration ≡ true → is_notified s group from until fewer_firing integration ≡ true
   one_notified integration notified =
       let entry : Option LogEntry = get s.log (log_key_of s.config group integration) in
-      let interval : Span = repeat_interval_of s.config group.route in
-      let parts = and_parts (not (needs_update entry firing (labels_of []) integration.send_resolved from interval)) (no_repeat_before until interval entry) notified in
-      (λ i. not (fewer_fire entry firing fewer_firing (labels_of []) integration.send_resolved from interval some some_fewer then (not-true _ parts.0) i) && parts.1 i)
+      grind (arith, fewer_fire entry firing fewer_firing (labels_of []) integration.send_resolved from (repeat_interval_of s.config group.route) some some_fewer then)
 
 module _ (s : State) (group : RouteLabels) (from until : Moment) where
   among_notified : (m : LabelSet × Alert) (ms kept : Members) → ((found : LabelSets) → is_subset (labels_of (m ∷ ms)) found ≡ true → is_subset (labels_of kept) found ≡ true)

@@ -1,18 +1,15 @@
 -- How many entries an event adds to the open record.
-use Rattle.std.specs.Prelude.{◌≡◌, ℕ, zero, suc, false, if◌then◌else◌, List, ◌∷◌, Option, None, Some, length, drop, ◌+◌, ◌-◌, ◌*◌, ◌≤◌, ◌<◌}
+use Rattle.std.proofs.Common.{◌≡◌, ℕ, suc, false, List, ◌∷◌, Option, None, Some, length, drop, ◌+◌, ◌-◌, ◌*◌, ◌≤◌, ◌<◌, fold, sum_by, get_or, sym, ap, ◌∙◌, arith}
 use Rattle.std.specs.Option.{option_map, option_map_or}
-use Rattle.std.specs.List.{fold, sum_by}
-use Rattle.std.proofs.Common.{get_or, refl, sym, ap, subst, ◌∙◌, arith}
 use Rattle.std.proofs.lemmas.List.{at_drop_more}
 use Rattle.std.proofs.lemmas.List.Sums.{sum_by-cons, sum_by-drop_more}
-use Rattle.amr_labels.specs.Map.{entries, len}
+use Rattle.amr_labels.specs.Map.{entries}
 use Rattle.amr_labels.specs.Labels.{LabelSet}
 use Rattle.amr_time.specs.Time.{Moment}
 use Rattle.amr_config.specs.Stated.Config.{Config}
 use Rattle.amr_config.specs.Routing.{chosen_routes}
 use Rattle.amr_rules.specs.declared.alert.Alert.{Alert}
 use Rattle.amr_events.specs.Actions.Events.{Event, Act, is_label}
-use Rattle.amr_events.specs.Actions.Acts.{event_at}
 use Rattle.amr_engine.specs.State.State.{State}
 use Rattle.amr_engine.specs.State.Dues.{Due, next_due}
 use Rattle.amr_engine.specs.declared.prepare.Prepared as prepare
@@ -21,7 +18,7 @@ use Rattle.amr_engine.specs.Moves.{move, advance}
 use Rattle.amr_engine.specs.Events.{at_moment, move_limit, with_config}
 use Rattle.amr_engine.specs.Applied.{run_moved}
 use Rattle.amr_engine.specs.Prepared.{DoesAsPrepared, entries_of}
-use Rattle.amr_engine.specs.Weight.{move_weight, moves_weight, first_weight, reload_entries, alert_weight, alerts_weight, copies, act_weight, weight, run_weight, event_weight}
+use Rattle.amr_engine.specs.Weight.{move_weight, moves_weight, first_weight, reload_entries, alert_weight, alerts_weight, copies, act_weight, event_weight}
 use Rattle.amr_engine.proofs.RunsLaws.{run_holds}
 use Rattle.amr_engine.proofs.Endings.{Ran, some_run, stays}
 use Rattle.amr_engine.proofs.Copied.{copies_are_members}
@@ -33,8 +30,7 @@ pub first_weight-some : (n : ℕ) (at : Moment) (s : State) (d : Due) → next_d
 first_weight-some n at s d e = ap (λ (o : Option Due). option_map_or (λ d. move_weight s d d.kind + first_weight n at (move d s)) o 0) e
 
 pub first_weight-none : (n : ℕ) (at : Moment) (s : State) → next_due at s ≡ None → first_weight n at s ≡ 0
-first_weight-none zero at s e = refl
-first_weight-none (suc n) at s e = ap (λ (o : Option Due). option_map_or (λ d. move_weight s d d.kind + first_weight n at (move d s)) o 0) e
+first_weight-none n at s e = grind arith
 
 -- the weight of a run's moves
 abbrev IsWeighed : Moment → ℕ → State → Option (List Due × State) → Type 0
@@ -42,8 +38,7 @@ IsWeighed at n s run = (r : List Due × State) → run ≡ Some r → first_weig
 
 stepped : (at : Moment) (n : ℕ) (s : State) (d : Due) (run : Option (List Due × State)) → next_due at s ≡ Some d → IsWeighed at n (move d s) run
     → IsWeighed at (suc n) s (option_map (after_step (next_due at) move d) run)
-stepped at n s d None next rest r e = absurd (cc)
-stepped at n s d (Some q) next rest r e = first_weight-some n at s d next ∙ ap (λ k. move_weight s d d.kind + k) (rest q refl) ∙ ap (spent_by s) e
+stepped at n s d run next rest r e = grind (arith, first_weight-some n at s d next, rest)
 
 first_weight-run : (limit : ℕ) (at : Moment) (s : State) → IsWeighed at limit s (advance limit at s)
 first_weight-run limit at s =
@@ -51,20 +46,14 @@ first_weight-run limit at s =
 
 -- before the first move
 pub none_spent : (limit : ℕ) (at : Moment) (s : State) (k : ℕ) → k + 2 * first_weight (limit - 0) at s ≤ k + 2 * first_weight limit at s
-none_spent limit at s k =
-    let all : limit - 0 ≡ limit = omega arith in
-    let same : first_weight (limit - 0) at s ≡ first_weight limit at s = ap (λ n. first_weight n at s) all in
-    omega (arith, same)
+none_spent limit at s k = grind arith
 
 -- one more move keeps the count
 pub spent : (limit made : ℕ) (at : Moment) (s next : State) (d : Due) (now later bound : ℕ) → now + 2 * first_weight (limit - made) at s ≤ bound
     → made < limit → Some d ≡ next_due at s → next ≡ move d s → later ≤ now + 2 * move_weight s d d.kind → later + 2 * first_weight (limit - (made + 1)) at next ≤ bound
 spent limit made at s next d now later bound so_far less some is grown =
     let one : limit - made ≡ suc (limit - (made + 1)) = omega (arith, less) in
-    let left : first_weight (limit - made) at s ≡ move_weight s d d.kind + first_weight (limit - (made + 1)) at (move d s) =
-    ap (λ n. first_weight n at s) one ∙ first_weight-some (limit - (made + 1)) at s d (sym some) in
-    let same : first_weight (limit - (made + 1)) at next ≡ first_weight (limit - (made + 1)) at (move d s) = ap (λ (x : State). first_weight (limit - (made + 1)) at x) is in
-    omega (arith, left, same, so_far, grown)
+    grind (arith, one, first_weight-some (limit - (made + 1)) at s d (sym some))
 
 -- one more item of a list is done, and the rest is left
 one_more : {X : Type 0} (f : X → ℕ) (xs : List X) (i : ℕ) (x : X) → i < length xs → x ≡ get_or xs i x → sum_by f (drop i xs) ≡ f x + sum_by f (drop (i + 1) xs)
@@ -76,26 +65,17 @@ fold_left f s xs i x less is = at_drop_more (fold f s) xs i x less ∙ ap (λ y.
 -- one more alert is inserted into its groups
 pub placed_more : (config was : Config) (alerts : List (LabelSet × Alert)) (i : ℕ) (alert : LabelSet × Alert) (now later bound : ℕ) → now + 2 * copies config (drop i alerts) ≤ bound
     → i < length alerts → alert ≡ get_or alerts i alert → was ≡ config → later ≤ now + 2 * length (chosen_routes was alert.0) → later + 2 * copies config (drop (i + 1) alerts) ≤ bound
-placed_more config was alerts i alert now later bound so_far less is same grown =
-    let left : copies config (drop i alerts) ≡ length (chosen_routes config alert.0) + copies config (drop (i + 1) alerts) = one_more (λ a. length (chosen_routes config a.0)) alerts i alert less is in
-    let here : length (chosen_routes was alert.0) ≡ length (chosen_routes config alert.0) = ap (λ c. length (chosen_routes c alert.0)) same in
-    omega (arith, left, here, so_far, grown)
+placed_more config was alerts i alert now later bound so_far less is same grown = grind (arith, one_more (λ a. length (chosen_routes config a.0)) alerts i alert less is)
 
 -- one more alert is stored
 pub put_more : (config was : Config) (alerts : List (LabelSet × Alert)) (alert : LabelSet × Alert) (rest : List (LabelSet × Alert)) (now later bound : ℕ) → now + alerts_weight config alerts ≤ bound
     → alerts ≡ alert ∷ rest → was ≡ config → later ≤ now + alert_weight was alert.0 → later + alerts_weight config rest ≤ bound
-put_more config was alerts alert rest now later bound so_far is same grown =
-    let left : alerts_weight config alerts ≡ alert_weight config alert.0 + alerts_weight config rest = ap (alerts_weight config) is ∙ sum_by-cons (λ (a : LabelSet × Alert). alert_weight config a.0) alert rest in
-    let here : alert_weight was alert.0 ≡ alert_weight config alert.0 = ap (λ c. alert_weight c alert.0) same in
-    omega (arith, left, here, so_far, grown)
+put_more config was alerts alert rest now later bound so_far is same grown = grind (arith, sum_by-cons (λ (a : LabelSet × Alert). alert_weight config a.0) alert rest)
 
 -- the entries of a reload
 pub reloaded : (s : State) (config replacing : Config) (alerts : List (LabelSet × Alert)) (after : State) (now replaced placed : ℕ) → after ≡ with_config s config → replacing ≡ config
     → alerts ≡ entries s.alerts → replaced ≤ now + 1 → placed ≤ replaced + 2 * copies replacing alerts → placed ≤ now + reload_entries after
-reloaded s config replacing alerts after now replaced placed is same all first later =
-    let members : len after.placements ≡ copies replacing alerts =
-    ap (λ (x : State). len x.placements) is ∙ copies_are_members s config ∙ (λ i. copies (sym same i) (sym all i)) in
-    omega (arith, members, first, later)
+reloaded s config replacing alerts after now replaced placed is same all first later = grind (arith, copies_are_members s config)
 
 -- an accepted event as a whole
 pub light_done : (s : State) (event : Event) (at : Moment) (act : Act) (at_is : at ≡ event.at) (act_is : act ≡ event.act) (prepared : prepare.Prepared) (count : ℕ) (next after : State)
@@ -106,9 +86,4 @@ light_done s event at act at_is act_is prepared count next after now moved done 
     let r : Ran at (advance move_limit at s) count next = some_run at (advance move_limit at s) count next ran in
     let light : entries_of prepared next after ≤ 1 + 2 * act_weight next after act = does.light next after (stays s at count next ran) in
     let ends : act_weight next after act ≡ act_weight (at_moment at r.moved) after act = ap (λ (x : State). act_weight x after act) r.ends in
-    let moves : first_weight move_limit at s ≡ moves_weight s r.moves = first_weight-run move_limit at s (r.moves, r.moved) r.ran in
-    let whole : event_weight s (event_at at act) after ≡ weight s r.moves r.moved after (event_at at act) =
-    ap (λ b. if b then 0 else run_weight s (event_at at act) after) no_label
-    ∙ ap (λ (o : Option (List Due × State)). option_map_or (λ run. weight s run.0 run.1 after (event_at at act)) o 0) r.ran in
-    let short : done ≤ now + 4 * event_weight s (event_at at act) after = omega (arith, light, ends, moves, whole, went, acted) in
-    subst (λ (e : Event). done ≤ now + 4 * event_weight s e after) (λ i. event_at (at_is i) (act_is i)) short
+    grind (arith, light, ends, first_weight-run move_limit at s (r.moves, r.moved) r.ran, r.ran)

@@ -1,34 +1,29 @@
 -- What holds at the start, and what moves, the clock and actions keep, holds after every run.
-use Rattle.std.specs.Prelude.{◌≡◌, ℕ, false, List, [], ◌∷◌, ◌++◌, Some, Result, Ok, Err, ◌≤◌, nat_lt}
-use Rattle.std.specs.List.{fold}
-use Rattle.std.proofs.Common.{refl, sym, subst, inl, inr}
-use Rattle.std.proofs.lemmas.Bool.{ltb-false}
+use Rattle.std.proofs.Common.{[], ◌≡◌, ℕ, false, List, ◌∷◌, ◌++◌, Some, Ok, ◌≤◌, nat_lt, Result, Err, fold, ltb-false, sym, subst, inl, inr, arith, refl}
 use Rattle.amr_labels.specs.Labels.{LabelSet}
 use Rattle.amr_time.specs.Time.{Moment}
 use Rattle.amr_config.specs.Stated.Config.{Config}
 use Rattle.amr_rules.specs.declared.alert.Alert.{Alert}
 use Rattle.amr_rules.specs.Silences.{Silences, after_post, after_expiry}
-use Rattle.amr_events.specs.Posts.Reasons.{Reason}
 use Rattle.amr_events.specs.Actions.Events.{Event, Act}
 use Rattle.amr_engine.specs.State.State.{State, start}
 use Rattle.amr_engine.specs.State.Dues.{Due, next_due}
 use Rattle.amr_engine.specs.Moves.{move, Advances}
-use Rattle.amr_engine.specs.Events.{put, put_all, valid_alerts, with_silences, with_config, on_ok, after_act, at_moment, do_event, after_event, after_events, run_of, move_limit}
+use Rattle.amr_engine.specs.Events.{put, with_silences, with_config, after_act, at_moment, do_event, after_event, after_events, run_of, move_limit, put_all, valid_alerts, on_ok}
 use Rattle.amr_engine.specs.Said.{Acts, Does}
 use Rattle.amr_engine.proofs.MovesLaws.{do_within-Does}
+use Rattle.amr_events.specs.Posts.Reasons.{Reason}
 
 -- what holds at each value of a result
 ok_holds : {A : Type 0} (P : State → Type 0) (f : A → State) → ((x : A) → P (f x)) → (r : Result A Reason) (after : State) → on_ok f r ≡ Ok after → P after
-ok_holds P f holds (Ok x) after e = let is : f x ≡ after = cc in subst P is (holds x)
-ok_holds P f holds (Err reason) after e = absurd (cc)
+ok_holds P f holds r after e = grind (arith, holds)
 
 -- what holds of the state, and after alerts are stored, silences are set and a configuration is
 -- loaded, holds after each action
 module _ (P : State → Type 0) (s : State) (same : P s) (stored : (alerts : List (LabelSet × Alert)) → P (fold put s alerts)) (silenced : (silences : Silences) → P (with_silences s silences))
     (loaded : (config : Config) → P (with_config s config)) where
   put_all_holds : (alerts : List (LabelSet × Alert)) (after : State) → put_all s alerts ≡ Ok after → P after
-  put_all_holds [] after e = absurd (cc)
-  put_all_holds (alert ∷ alerts) after e = let is : fold put s (alert ∷ alerts) ≡ after = cc in subst P is (stored (alert ∷ alerts))
+  put_all_holds alerts after e = grind (arith, stored alerts)
 
   pub act_holds : (act : Act) (after : State) → after_act s act ≡ Ok after → P after
   unfolding after_act

@@ -1,10 +1,7 @@
 -- More moves are due than the limit if one group alone is flushed more often.
-use Rattle.std.specs.Prelude.{◌≡◌, ℕ, zero, suc, true, false, List, [], ◌∷◌, ◌++◌, Option, Some, None, length, ◌≤◌, ◌<◌, ◌+◌, ◌-◌, ◌*◌, ◌==◌, nat_le, cond, map, option_map, ◌⊎◌}
+use Rattle.std.proofs.Common.{[], ◌≡◌, ℕ, zero, suc, true, false, List, ◌∷◌, ◌++◌, Option, Some, None, length, ◌≤◌, ◌<◌, ◌+◌, ◌-◌, ◌*◌, ◌==◌, map, option_map, ◌⊎◌, refl, sym, ap, ◌∙◌, subst, inl, inr, arith}
 use Rattle.std.specs.List.{Contains, fold, filter_map, cons_option}
 use Rattle.std.specs.Option.{option_map_or}
-use Rattle.std.proofs.Common.{refl, sym, ap, ◌∙◌, subst, inl, inr, arith}
-use Rattle.std.proofs.lemmas.Bool.{leb-true}
-use Rattle.std.proofs.lemmas.Option.{cond_some, same_Some}
 use Rattle.amr_labels.specs.Map.{Map, get, insert, entries, get-remove}
 use Rattle.amr_labels.specs.Labels.{LabelSet, label_set_cmp_total, label_set_cmp-IsAntisymmetric}
 use Rattle.amr_time.specs.Time.{Moment, second, next_multiple_of}
@@ -32,6 +29,8 @@ use Rattle.amr_engine.proofs.Listed.{none_listed, first_or_rest, listed_first, l
 use Rattle.amr_engine.proofs.PlacedLists.{among_entries, get-among, get-inserted, same_or_apart}
 use Rattle.amr_engine.proofs.TickLaws.{Judged, move_keeps}
 use Rattle.amr_engine.proofs.MovesKeep.{notify_receiver_holds, flush_holds}
+use Rattle.std.proofs.lemmas.Bool.Decides.{nat_tests}
+use Rattle.std.proofs.lemmas.Map.Views.{tells_apart}
 
 -- ---- the entries of a map
 
@@ -52,11 +51,7 @@ in_right d (x ∷ xs) ys h = inr (in_right d xs ys h)
 
 pub in_either : (d : Due) (xs ys : List Due) → IsIn d (xs ++ ys) → IsIn d xs ⊎ IsIn d ys
 in_either d [] ys h = inr h
-in_either d (x ∷ xs) ys (inl e) = inl (inl e)
-in_either d (x ∷ xs) ys (inr h) = elim (in_either d xs ys h) [
-  | inl h ↦ inl (inr h)
-  | inr h ↦ inr h
-]
+in_either d (x ∷ xs) ys h = grind (arith, in_either d xs ys)
 
 pub in_map : {A : Type 0} (f : A → Due) (e : A) (es : List A) → Contains es e → IsIn (f e) (map f es)
 in_map f e [] h = absurd (none_listed e h)
@@ -97,8 +92,7 @@ module _ (alerts : Alerts) (timers : Timers) (P : Due → Type 0) (removed : (la
     (emptied : (group : RouteLabels) (timer : GroupTimer) (since : Moment) → get timers group ≡ Some timer → timer.empty_since ≡ Some since → P (removal_of group since))
     (flushed : (group : RouteLabels) (timer : GroupTimer) → get timers group ≡ Some timer → P (flush_of (group, timer))) (d : Due) where
   if_emptied : (group : RouteLabels) (timer : GroupTimer) → get timers group ≡ Some timer → (o : Option Moment) → timer.empty_since ≡ o → option_map (removal_of group) o ≡ Some d → P d
-  if_emptied group timer timed None e is = absurd (cc)
-  if_emptied group timer timed (Some since) e is = let same : removal_of group since ≡ d = cc in subst P same (emptied group timer since timed e)
+  if_emptied group timer timed o e is = grind (arith, emptied group timer)
 
   pub due_holds : IsIn d (dues_of alerts timers) → P d
   due_holds among = elim (in_either d (map alert_removal_of (entries alerts) ++ filter_map group_removal_of (entries timers)) (map flush_of (entries timers)) among) [
@@ -116,10 +110,7 @@ module _ (alerts : Alerts) (timers : Timers) (P : Due → Type 0) (removed : (la
   ]
 
 by_moment : (at : Moment) (o : Option Due) (d : Due) → due_by at o ≡ Some d → d.moment ≤ at
-by_moment at None d e = absurd (cc)
-by_moment at (Some least) d e =
-    let is = cond_some (nat_le least.moment at) least d e in
-    subst (λ (x : Due). x.moment ≤ at) is.1 (leb-true least.moment at is.0)
+by_moment at o d e = grind (arith, nat_tests)
 
 pub next_is_due : (at : Moment) (s : State) (d : Due) → next_due at s ≡ Some d → IsIn d (dues s) × (d.moment ≤ at)
 unfolding next_due
@@ -146,14 +137,7 @@ module _ (at : Moment) (group : RouteLabels) where
     flush_other m s = flush_holds (λ x. get x.timers group ≡ get s.timers group) other (λ change x e. other_timer group other differ change x ∙ e) (λ _ _ e. e) (λ _ _ _ _ e. e) m s refl
 
     lasts_by_other : (m : Moment) (s : State) (timer : GroupTimer) → Lasts s at group timer → Lasts (flush m other s) at group timer
-    lasts_by_other m s timer lasts =
-        let same : members (flush m other s) group ≡ members s group = (flush_leaves other m s).members group differ in
-        record {
-          timed = flush_other m s ∙ lasts.timed;
-          full = lasts.full;
-          some = subst (λ (ms : Members). 0 < length ms) (sym same) lasts.some;
-          fire = ap (all_fire_until (at + 1)) same ∙ lasts.fire;
-        }
+    lasts_by_other m s timer lasts = grind (arith, flush_other m s, (flush_leaves other m s).members group differ)
 
   -- its own flush sets its timer, and drops no member
   abbrev reset : Moment → State → GroupTimer → GroupTimer
@@ -181,16 +165,7 @@ module _ (at : Moment) (group : RouteLabels) where
       ∙ get-inserted route_labels_cmp_total route_labels_cmp-IsAntisymmetric s.timers group (reset m s timer)
 
   lasts_by_own : (m : Moment) (s : State) (timer : GroupTimer) → m ≤ at → Lasts s at group timer → Lasts (flush m group s) at group (reset m s timer)
-  lasts_by_own m s timer soon lasts =
-      let left = own_parts m s timer soon lasts in
-      let same : members (flush m group s) group ≡ members s group =
-      members_by s (flush m group s) (ap (λ (p : Parts). p.0) left) (ap (λ (p : Parts). p.1.0) left) in
-      record {
-        timed = ap (λ (p : Parts). get p.1.1 group) left ∙ reset_timed m s timer lasts.timed;
-        full = lasts.full;
-        some = subst (λ (ms : Members). 0 < length ms) (sym same) lasts.some;
-        fire = ap (all_fire_until (at + 1)) same ∙ lasts.fire;
-      }
+  lasts_by_own m s timer soon lasts = grind (arith, own_parts m s timer soon lasts, reset_timed m s timer lasts.timed, members_by s (flush m group s))
 
   -- after a move it still lasts, and its next flush is at most one interval later
   record Next (s : State) (timer : GroupTimer) (d : Due) : Type 0 where
@@ -200,24 +175,13 @@ module _ (at : Moment) (group : RouteLabels) where
 
   by_alert : (s : State) (timer : GroupTimer) (alert : LabelSet × Alert) → Lasts s at group timer → Next s timer (alert_removal_of alert)
   unfolding move members
-  by_alert s timer alert lasts = record {
-    after = timer;
-    lasts = record { timed = lasts.timed; full = lasts.full; some = lasts.some; fire = lasts.fire };
-    soon = omega arith;
-  }
+  by_alert s timer alert lasts = record { after = timer; lasts = assumption; soon = omega arith }
 
   by_removal : (s : State) (timer : GroupTimer) (since : Moment) (other : RouteLabels) → (group ≡ other → ⊥) → Lasts s at group timer → Next s timer (removal_of other since)
   unfolding move members
   by_removal s timer since other differ lasts = record {
     after = timer;
-    lasts = record {
-      timed = get-remove route_labels_cmp_total s.timers other group
-          ∙ ap (λ b. cond b None (get s.timers group)) (apart route_labels_cmp-IsAntisymmetric group other differ)
-          ∙ lasts.timed;
-      full = lasts.full;
-      some = lasts.some;
-      fire = lasts.fire;
-    };
+    lasts = grind (arith, get-remove route_labels_cmp_total s.timers other group, tells_apart route_labels_cmp-IsAntisymmetric group other);
     soon = omega arith;
   }
 
@@ -225,12 +189,8 @@ module _ (at : Moment) (group : RouteLabels) where
   unfolding move
   by_flush s timer other its timed soon lasts = elim (same_or_apart route_labels_cmp_total route_labels_cmp-IsAntisymmetric group other) [
     | inl same ↦
-        let mine : timer ≡ its = same_Some timer its (sym lasts.timed ∙ ap (λ (g : RouteLabels). get s.timers g) same ∙ timed) in
-        subst (λ (x : RouteLabels × GroupTimer). Next s timer (flush_of x)) (λ i. (same i, mine i)) (record {
-          after = reset timer.next_flush s timer;
-          lasts = lasts_by_own timer.next_flush s timer (subst (λ (t : GroupTimer). t.next_flush ≤ at) (sym mine) soon) lasts;
-          soon = omega arith;
-        })
+        let mine : timer ≡ its = grind (arith, lasts.timed) in
+        record { after = reset its.next_flush s timer; lasts = grind (arith, lasts_by_own its.next_flush s timer soon lasts); soon = grind arith }
     | inr apart ↦ record { after = timer; lasts = lasts_by_other other apart.0 its.next_flush s timer lasts; soon = omega arith }
   ]
 
@@ -251,9 +211,6 @@ module _ (at : Moment) (group : RouteLabels) where
     | Some d ↦ λ e. (d, e)
   ] refl
 
-  one_less : (left interval next after at : ℕ) → next + suc left * interval ≤ at → after ≤ next + interval → after + left * interval ≤ at
-  one_less left interval next after at late soon = omega arith
-
   -- its flushes alone are more than this many
   pub too_many : (left : ℕ) (s : State) (timer : GroupTimer) → IsFlushedBeyond left s at group timer → advance left at s ≡ None
   too_many zero s timer (lasts, late) =
@@ -266,17 +223,13 @@ module _ (at : Moment) (group : RouteLabels) where
       let next = after_move s timer d.0 lasts d.1 in
       let same : (move d.0 s).config ≡ s.config = ap (λ (by : Judged). by.1) (move_keeps d.0 s) in
       let later : next.after.next_flush + left * group_interval_of (move d.0 s).config group.route ≤ at =
-      subst (λ (c : Config). next.after.next_flush + left * group_interval_of c group.route ≤ at) (sym same)
-      (one_less left (group_interval_of s.config group.route) timer.next_flush next.after.next_flush at late next.soon) in
+      rw same (omega (arith, late, next.soon)) in
       ap (λ (o : Option Due). option_map_or (λ d. option_map (after_step (next_due at) move d) (advance left at (move d s))) o (Some ([], s))) d.1
       ∙ ap (option_map (after_step (next_due at) move d.0)) (too_many left (move d.0 s) next.after (next.lasts, later))
 
 -- what the code finds of a group
 pub late_enough : (left at next interval its : ℕ) → its ≡ interval → next ≤ at → left * interval ≤ at - next → next + left * its ≤ at
-late_enough left at next interval its same soon late =
-    let all : left * its ≡ left * interval = ap (λ n. left * n) same in
-    omega (arith, all, soon, late)
+late_enough left at next interval its same soon late = grind arith
 
 pub some_members : (ms : Members) → false ≡ (length ms == 0) → 0 < length ms
-some_members [] e = absurd (cc)
-some_members (m ∷ ms) e = omega arith
+some_members ms e = grind (arith, nat_tests)

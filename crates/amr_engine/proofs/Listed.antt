@@ -1,9 +1,7 @@
 -- The items of a list, and of the set that is made of it.
-use Rattle.std.specs.Prelude.{◌≡◌, ◌<◌, ◌⊎◌, Bool, true, false, List, [], ◌∷◌, Some, None, map, cond, length, ◌==◌}
+use Rattle.std.proofs.Common.{[], ◌≡◌, ◌<◌, ◌⊎◌, Bool, true, List, ◌∷◌, map, length, ◌==◌, refl, sym, ap, ◌∙◌, subst, inl, inr, arith, zero, suc}
 use Rattle.std.specs.List.{Contains, filter, flat_map, list_any}
-use Rattle.std.specs.Option.{is_some}
 use Rattle.std.specs.Ordering.{eq_by_cmp}
-use Rattle.std.proofs.Common.{refl, sym, ap, ◌∙◌, subst, inl, inr, arith, zero, suc}
 use Rattle.std.proofs.lemmas.Cmp.{eq_by_cmp_equiv}
 use Rattle.std.proofs.lemmas.List.Elements.{All-contains, Contains-append_cases}
 use Rattle.std.proofs.lemmas.List.Sums.{AllPass-from_list_all}
@@ -14,6 +12,8 @@ use Rattle.amr_labels.specs.Labels.{LabelSet, label_set_cmp, label_set_cmp_total
 use Rattle.amr_rules.specs.Dedup.{LabelSets}
 use Rattle.amr_rules.proofs.Sets.{get-from_list}
 use Rattle.amr_rules.proofs.Subsets.{all_in}
+use Rattle.std.proofs.lemmas.List.{length-map, get_or-map}
+use Rattle.std.proofs.lemmas.Bool.{cond_both}
 
 module _ {X : Type 0} where
   pub none_listed : (x : X) → Contains [] x → ⊥
@@ -36,24 +36,13 @@ module _ {X : Type 0} where
   -- what passes the test stays
   pub listed_filter : (p : X → Bool) (xs : List X) (x : X) → p x ≡ true → Contains xs x → Contains (filter p xs) x
   listed_filter p [] x passes h = h
-  listed_filter p (y ∷ ys) x passes h =
-      elim (first_or_rest y x ys h) [
-        | inl same ↦ subst (λ b. Contains (cond b (y ∷ filter p ys) (filter p ys)) x) (sym (ap p same ∙ passes))
-            (subst (Contains (y ∷ filter p ys)) same (listed_first y (filter p ys)))
-        | inr rest ↦ elim (p y) as (λ b. Contains (cond b (y ∷ filter p ys) (filter p ys)) x) [
-          | true ↦ listed_later y x (filter p ys) (listed_filter p ys x passes rest)
-          | false ↦ listed_filter p ys x passes rest
-        ]
-      ]
+  listed_filter p (y ∷ ys) x passes h = cond_both (p y) (y ∷ filter p ys) (filter p ys) (λ l. Contains l x)
+      (λ _. elim (first_or_rest y x ys h) [ inl same ↦ subst (Contains (y ∷ filter p ys)) same (listed_first y (filter p ys)) | inr rest ↦ listed_later y x (filter p ys) (listed_filter p ys x passes rest) ])
+      (λ no. elim (first_or_rest y x ys h) [ inl same ↦ absurd (cc (ap p same, no, passes)) | inr rest ↦ listed_filter p ys x passes rest ])
 
 module _ {X Y : Type 0} where
   pub listed_map : (f : X → Y) (xs : List X) (x : X) → Contains xs x → Contains (map f xs) (f x)
-  listed_map f [] x h = absurd (none_listed x h)
-  listed_map f (y ∷ ys) x h =
-      elim (first_or_rest y x ys h) [
-        | inl same ↦ subst (λ z. Contains (map f (y ∷ ys)) (f z)) same (listed_first (f y) (map f ys))
-        | inr rest ↦ listed_later (f y) (f x) (map f ys) (listed_map f ys x rest)
-      ]
+  listed_map f xs x h = (h.0, omega (arith, h.1, length-map xs f), get_or-map f xs h.0 x (f x) h.1 ∙ ap f h.2)
 
   -- an item of the values is the value of an item
   pub from_map : (f : X → Y) (xs : List X) (y : Y) → Contains (map f xs) y → (x : X) × Contains xs x × (f x ≡ y)
@@ -74,12 +63,8 @@ module _ {X Y : Type 0} where
 
 -- ---- the set of a list
 
-seen : (b : Bool) → is_some (cond b (Some (tt {0})) None) ≡ b
-seen true = refl
-seen false = refl
-
 set_contains : (ks : List LabelSet) (q : LabelSet) → contains (from_list {R = label_set_cmp} ks) q ≡ list_any (eq_by_cmp label_set_cmp q) ks
-set_contains ks q = ap is_some (get-from_list label_set_cmp_total ks q) ∙ seen (list_any (eq_by_cmp label_set_cmp q) ks)
+set_contains ks q = grind (arith, get-from_list label_set_cmp_total ks q)
 
 -- what is in the set is in the list
 pub listed_in_set : (ks : List LabelSet) (q : LabelSet) → contains (from_list {R = label_set_cmp} ks) q ≡ true → Contains ks q

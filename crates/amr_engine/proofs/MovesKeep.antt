@@ -1,6 +1,5 @@
 -- What each step of a flush keeps, and each removal, every move keeps.
-use Rattle.std.specs.Prelude.{true, List, [], ◌∷◌, Some, ◌+◌}
-use Rattle.std.specs.List.{fold}
+use Rattle.std.proofs.Common.{[], true, List, ◌∷◌, Some, ◌+◌, fold, arith}
 use Rattle.std.proofs.lemmas.Bool.{cond_both}
 use Rattle.amr_labels.specs.Labels.{LabelSet}
 use Rattle.amr_time.specs.Time.{Moment}
@@ -11,8 +10,7 @@ use Rattle.amr_config.specs.RouteLabels.{on_route}
 use Rattle.amr_rules.specs.declared.alert.Alert.{Alert}
 use Rattle.amr_engine.specs.State.State.{State, members}
 use Rattle.amr_engine.specs.State.Dues.{Due}
-use Rattle.amr_engine.specs.declared.state.due.Kind.{Kind}
-use Rattle.amr_engine.specs.declared.state.due.Kind.TheVariants.{AlertRemoval, GroupRemoval, GroupFlush}
+use Rattle.amr_engine.specs.declared.state.due.Kind.TheVariants.{AlertRemoval, GroupRemoval}
 use Rattle.amr_engine.specs.declared.state.notification.GroupTimer.{GroupTimer}
 use Rattle.amr_engine.specs.Flush.{Members, firing_of, resolved_of, set_timer, log_key_of, let_through, record_notification, notify_if_due, notify_receiver, drop_member, mark_if_empty, drop_resolved, run_pipeline, flush}
 use Rattle.amr_engine.specs.Moves.{move, move_of_kind}
@@ -38,8 +36,7 @@ notify_receiver_holds P at group (m ∷ ms) recorded s holds = fold_holds P (not
 module _ (P : State → Type 0) (group : RouteLabels) (timed : (change : GroupTimer → GroupTimer) (s : State) → P s → P (set_timer group change s))
     (dropped : (s : State) (member : LabelSet × Alert) → P s → P (drop_member group s member)) where
   mark_holds : (at : Moment) (ms : Members) (s : State) → P s → P (mark_if_empty at group ms s)
-  mark_holds at [] s holds = timed (λ timer. record timer { empty_since = Some at }) s holds
-  mark_holds at (m ∷ ms) s holds = holds
+  mark_holds at ms s holds = grind (arith, timed (λ timer. record timer { empty_since = Some at }) s holds)
 
   pub drop_holds : (at : Moment) (ms : Members) (s : State) → P s → P (drop_resolved at group ms s)
   unfolding drop_resolved
@@ -61,11 +58,6 @@ module _ (P : State → Type 0) (group : RouteLabels) (timed : (change : GroupTi
 -- what flushes and removals keep, each move keeps
 module _ (P : State → Type 0) (flushed : (group : RouteLabels) (at : Moment) (s : State) → P s → P (flush at group s))
     (alert_removed : (due : Due) (s : State) → P s → P (move_of_kind AlertRemoval due s)) (group_removed : (due : Due) (s : State) → P s → P (move_of_kind GroupRemoval due s)) where
-  kind_holds : (kind : Kind) (due : Due) (s : State) → P s → P (move_of_kind kind due s)
-  kind_holds AlertRemoval due s holds = alert_removed due s holds
-  kind_holds GroupRemoval due s holds = group_removed due s holds
-  kind_holds GroupFlush due s holds = flushed (on_route due.route due.labels) due.moment s holds
-
   pub move_holds : (due : Due) (s : State) → P s → P (move due s)
   unfolding move
-  move_holds due s holds = kind_holds due.kind due s holds
+  move_holds due s holds = grind (arith, alert_removed due s holds, group_removed due s holds, flushed (on_route due.route due.labels) due.moment s holds)

@@ -1,19 +1,16 @@
 -- What is noted of the moves from a state holds of them.
-use Rattle.std.specs.Prelude.{◌≡◌, ◌⊎◌, ℕ, zero, suc, Bool, true, false, if◌then◌else◌, ◌==◌, ◌&&◌, nat_lt, ◌+◌, List, [], ◌∷◌, ◌++◌, Option, Some, None, length, get_or, nat_le}
+use Rattle.std.proofs.Common.{[], ◌≡◌, ◌⊎◌, ℕ, zero, suc, Bool, true, false, ◌+◌, List, ◌∷◌, ◌++◌, Option, Some, length, get_or, Result, OnOk, OnErr, refl, sym, ap, ◌∙◌, subst, arith}
 use Rattle.std.specs.Option.{option_map_or}
-use Rattle.std.proofs.Common.{inl, inr, Result, Ok, Err, OnOk, OnErr, refl, sym, ap, ◌∙◌, subst, arith}
 use Rattle.std.proofs.lemmas.Bool.Decides.{nat_tests}
-use Rattle.std.proofs.lemmas.Option.{cond_some}
 use Rattle.amr_time.specs.Time.{Moment}
 use Rattle.amr_engine.specs.State.State.{State}
 use Rattle.amr_engine.specs.State.Dues.{Due, dues, least_due, due_by, next_due}
 use Rattle.amr_engine.specs.Moves.{move}
-use Rattle.amr_engine.specs.QuietMoves.{first_due, after_first_move, after_first_moves, OnlySets, IsQuietMove, AreQuietMoves, most_noted, with_move_noted}
+use Rattle.amr_engine.specs.QuietMoves.{first_due, after_first_move, after_first_moves, OnlySets, IsQuietMove, AreQuietMoves, with_move_noted}
 
 -- a timer that is due by a moment is the first of all
 first_by : (at : Moment) (first : Option Due) (due : Due) → due_by at first ≡ Some due → first ≡ Some due
-first_by at None due is = absurd (cc)
-first_by at (Some first) due is = ap (λ (d : Due). Some d) (cond_some (nat_le first.moment at) first due is).1
+first_by at first due is = grind arith
 
 pub next_is_first : (at : Moment) (s : State) (due : Due) → Some due ≡ next_due at s → first_due s ≡ Some due
 unfolding next_due
@@ -39,15 +36,11 @@ one_noted (first ∷ moves) quiet s known one = (known.0, one_noted moves quiet 
 -- one more move is noted
 pub still_noted : (moves : List Bool) (made : ℕ) (quiet : Bool) (s : State) → AreQuietMoves moves s → (quiet ≡ true → IsQuietMove (after_first_moves made s)) → AreQuietMoves (with_move_noted made quiet moves) s
 still_noted moves made quiet s known one =
-    elim ((made == length moves) && nat_lt made most_noted) as (λ b. ((made == length moves) && nat_lt made most_noted) ≡ b → AreQuietMoves (if b then moves ++ quiet ∷ [] else moves) s) [
-      | true ↦ λ e.
-          let all : made ≡ length moves = grind (arith, nat_tests) in
-          one_noted moves quiet s known (subst (λ n. quiet ≡ true → IsQuietMove (after_first_moves n s)) all one)
-      | false ↦ λ e. known
-    ] refl
+    let noted : made ≡ length moves → AreQuietMoves (moves ++ quiet ∷ []) s = λ all. one_noted moves quiet s known (subst (λ n. quiet ≡ true → IsQuietMove (after_first_moves n s)) all one) in
+    grind (arith, nat_tests, noted)
 
 same_due : (first : Option Due) (a b : Due) → first ≡ Some a → first ≡ Some b → a ≡ b
-same_due first a b is is' = ap (λ o. option_map_or (λ d. d) o a) (sym is ∙ is')
+same_due first a b is is' = cc
 
 -- a move of which it is known is the first one
 pub is_quiet_move : (s : State) (due : Due) → first_due s ≡ Some due → OnlySets s due → IsQuietMove s
@@ -61,16 +54,14 @@ known_move moves made start s at due here known next quiet =
 
 -- a change that may lack the memory was made, or nothing was changed
 pub noted_or_not : {E : Type 0} (r : Result (Unit {0}) E) (A B : Type 0) → OnOk r A → OnErr r B → A ⊎ B
-noted_or_not (Ok done) A B made same = inl made
-noted_or_not (Err e) A B made same = inr same
+noted_or_not r A B made same = grind arith
 
 -- one more move is noted after it was made, or forgotten
 pub note_move : (moves after : List Bool) (made : ℕ) (quiet : Bool) (start s : State) (at : Moment) (due : Due) → s ≡ after_first_moves made start → AreQuietMoves moves start → Some due ≡ next_due at s
     → (quiet ≡ true → OnlySets s due) → (after ≡ with_move_noted made quiet moves) ⊎ (after ≡ moves) → AreQuietMoves after start
-note_move moves after made quiet start s at due here known next only (inl are) =
-    subst (λ bits. AreQuietMoves bits start) (sym are)
-    (still_noted moves made quiet start known (λ is. subst (λ (x : State). IsQuietMove x) here (is_quiet_move s due (next_is_first at s due next) (only is))))
-note_move moves after made quiet start s at due here known next only (inr same) = subst (λ bits. AreQuietMoves bits start) (sym same) known
+note_move moves after made quiet start s at due here known next only noted =
+    let more = still_noted moves made quiet start known (λ is. subst (λ (x : State). IsQuietMove x) here (is_quiet_move s due (next_is_first at s due next) (only is))) in
+    grind (arith, more)
 
 -- the state after one more move
 pub one_more : (made : ℕ) (start s after : State) (at : Moment) (due : Due) → s ≡ after_first_moves made start → Some due ≡ next_due at s → after ≡ move due s → after ≡ after_first_moves (made + 1) start

@@ -1,12 +1,8 @@
 -- What leaves a group notified: all but flushes of the group, posts of its alerts, and a reload.
-use Rattle.std.specs.Prelude.{◌≡◌, ◌<◌, ℕ, Bool, false, List, [], ◌∷◌, Some, cond, map, length, ◌⊎◌}
-use Rattle.std.specs.List.{filter, fold}
+use Rattle.std.proofs.Common.{[], ◌≡◌, ◌<◌, ℕ, Bool, false, List, ◌∷◌, Some, cond, map, length, ◌⊎◌, filter, fold, Ordering, refl, sym, ap, ◌∙◌, subst, arith}
 use Rattle.std.specs.Ordering.{eq_by_cmp}
-use Rattle.std.specs.FinMap.Entries.{put, by_order}
-use Rattle.std.specs.declared.cmp.Ordering.{Ordering}
-use Rattle.std.specs.declared.cmp.Ordering.TheVariants.{Less, Equal, Greater}
+use Rattle.std.specs.FinMap.Entries.{put}
 use Rattle.std.specs.FinMap.{IsAntisymmetric}
-use Rattle.std.proofs.Common.{refl, sym, ap, ◌∙◌, subst}
 use Rattle.amr_labels.specs.Map.{Map, get, insert, remove, entries, entries-insert}
 use Rattle.amr_labels.specs.Labels.{LabelSet}
 use Rattle.amr_time.specs.Time.{Moment}
@@ -93,15 +89,7 @@ module _ (s : State) (moment : Moment) (alerts : Alerts) (silences : Silences) (
 put_elsewhere : {K X : Type 0} (R : K → K → Ordering) → IsAntisymmetric R → (test : K → Bool) (k : K) (v : X) → test k ≡ false → (es : List (K × X))
     → filter (λ e. test e.0) (put R k v es) ≡ filter (λ e. test e.0) es
 put_elsewhere R exact test k v gone [] = λ i. cond (gone i) ((k, v) ∷ []) []
-put_elsewhere {X = X} R exact test k v gone (e ∷ es) =
-    let kept = filter (λ (other : _ × X). test other.0) in
-    elim (R k e.0) as (λ r. R k e.0 ≡ r → kept (by_order r ((k, v) ∷ e ∷ es) ((e.0, v) ∷ es) (e ∷ put R k v es)) ≡ kept (e ∷ es)) [
-      | Less ↦ λ is. (λ i. cond (gone i) ((k, v) ∷ kept (e ∷ es)) (kept (e ∷ es)))
-      | Equal ↦ λ is.
-          let here : test e.0 ≡ false = ap test (sym (exact k e.0 is)) ∙ gone in
-          (λ i. cond (here i) ((e.0, v) ∷ kept es) (kept es)) ∙ sym (λ i. cond (here i) (e ∷ kept es) (kept es))
-      | Greater ↦ λ is. (λ i. cond (test e.0) (e ∷ put_elsewhere R exact test k v gone es i) (put_elsewhere R exact test k v gone es i))
-    ] refl
+put_elsewhere R exact test k v gone (e ∷ es) = grind (arith, put_elsewhere R exact test k v gone es, exact k e.0)
 
 module _ (labels : LabelSet) (alert : Alert) where
   inserted_one_members : (s : State) (route : ℕ) (asked : RouteLabels) → (asked ≡ group_key s.config (on_route route labels) → ⊥) → members (insert_into_group labels alert s route) asked ≡ members s asked

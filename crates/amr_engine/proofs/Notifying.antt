@@ -1,12 +1,8 @@
 -- Notifying each integration, and dropping members.
-use Rattle.std.specs.Prelude.{◌≡◌, Bool, true, false, not, ◌&&◌, [], ◌∷◌, Some, length, ◌==◌, if◌then◌else◌, Result, Ok, Err}
-use Rattle.std.specs.Result.{OnOk}
+use Rattle.std.proofs.Common.{[], ◌≡◌, Bool, false, ◌∷◌, Some, length, ◌==◌, if◌then◌else◌, refl, sym, ap, ◌∙◌, arith}
 use Rattle.std.specs.List.{fold, list_all}
-use Rattle.std.proofs.Common.{refl, sym, ap, ◌∙◌}
-use Rattle.amr_labels.specs.Labels.{LabelSet}
 use Rattle.amr_time.specs.Time.{Moment}
 use Rattle.amr_config.specs.Routing.{integrations_of}
-use Rattle.amr_rules.specs.declared.alert.Alert.{Alert}
 use Rattle.amr_rules.specs.Alerts.{is_resolved_at}
 use Rattle.amr_config.specs.declared.route_labels.RouteLabels.{RouteLabels}
 use Rattle.amr_engine.specs.State.State.{State}
@@ -14,16 +10,10 @@ use Rattle.amr_engine.specs.Stages.{taken_away}
 use Rattle.amr_engine.specs.Quiet.{with_timer_reset}
 use Rattle.amr_engine.specs.Flush.{Members, let_through, firing_of, resolved_of, notify_if_due, notify_receiver, set_timer, mark_if_empty, drop_member, drop_resolved}
 
--- what follows for the value of a result
-pub on_ok : {T E : Type 0} (r : Result T E) (P Q : Type 0) → (P → Q) → OnOk r P → OnOk r Q
-on_ok (Ok x) P Q f p = f p
-on_ok (Err e) P Q f p = p
-
 -- each integration has its turn if some member isn't muted
 pub each_turn : (at : Moment) (group : RouteLabels) (members : Members) (s : State) → (length members == 0) ≡ false
     → fold (notify_if_due at group members) s (integrations_of s.config group.route) ≡ notify_receiver at group members s
-each_turn at group [] s some = absurd (cc)
-each_turn at group (member ∷ members) s some = refl
+each_turn at group members s some = grind arith
 
 abbrev emptied : Moment → RouteLabels → State → State
 emptied at group = set_timer group (λ timer. record timer { empty_since = Some at })
@@ -31,17 +21,11 @@ emptied at group = set_timer group (λ timer. record timer { empty_since = Some 
 abbrev all_resolved : Moment → Members → Bool
 all_resolved at = list_all (λ member. is_resolved_at at member.1)
 
-marked_one : (at : Moment) (group : RouteLabels) (member : LabelSet × Alert) (members : Members) (s : State) (b : Bool)
-    → mark_if_empty at group (firing_of at members) s ≡ (if all_resolved at members then emptied at group s else s)
-    → mark_if_empty at group (if not b then member ∷ firing_of at members else firing_of at members) s ≡ (if b && all_resolved at members then emptied at group s else s)
-marked_one at group member members s true rest = rest
-marked_one at group member members s false rest = refl
-
 -- a group is empty if all of its members are resolved
 marked : (at : Moment) (group : RouteLabels) (members : Members) (s : State)
     → mark_if_empty at group (firing_of at members) s ≡ (if all_resolved at members then emptied at group s else s)
 marked at group [] s = refl
-marked at group (member ∷ members) s = marked_one at group member members s (is_resolved_at at member.1) (marked at group members s)
+marked at group (member ∷ members) s = grind (arith, marked at group members s)
 
 -- what is left of the group if all of its members are resolved, and if some member isn't
 pub dropped : (at : Moment) (group : RouteLabels) (members : Members) (s kept : State) (b : Bool) → b ≡ all_resolved at members

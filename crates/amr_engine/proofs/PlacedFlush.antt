@@ -1,14 +1,11 @@
 -- A flush leaves the alerts placed.
-use Rattle.std.specs.Prelude.{◌≡◌, ℕ, Bool, true, false, List, [], ◌∷◌, ◌≤◌, Option, Some, None, ◌+◌}
-use Rattle.std.specs.List.{All, Contains, filter, fold}
-use Rattle.std.specs.Option.{option_map_or}
+use Rattle.std.proofs.Common.{[], ◌≡◌, ℕ, Bool, true, false, List, ◌∷◌, ◌≤◌, Option, Some, None, ◌+◌, All, Contains, filter, fold, refl, sym, ap, ◌∙◌, subst, arith}
 use Rattle.std.specs.Ordering.{eq_by_cmp, is_eq}
-use Rattle.std.proofs.Common.{refl, sym, ap, ◌∙◌, subst, inl, inr, arith}
 use Rattle.std.proofs.lemmas.Cmp.{tied_itself}
 use Rattle.std.proofs.lemmas.Bool.Decides.{nat_tests}
 use Rattle.std.proofs.lemmas.List.Elements.{All-head, All-tail, All-map}
 use Rattle.std.proofs.lemmas.Map.Views.{tells_apart}
-use Rattle.amr_labels.specs.Map.{Map, get, insert, remove, entries}
+use Rattle.amr_labels.specs.Map.{Map, get, entries}
 use Rattle.amr_labels.specs.Labels.{LabelSet}
 use Rattle.amr_time.specs.Time.{Moment}
 use Rattle.amr_config.specs.Stated.Config.{Config}
@@ -46,25 +43,13 @@ placed_later at later s order placed = record {
 module _ (group : RouteLabels) (change : GroupTimer → GroupTimer) (s : State) where
   -- another group's timer
   set_timer_apart : (other : RouteLabels) → (other ≡ group → ⊥) → IsTimed s other → IsTimed (set_timer group change s) other
-  set_timer_apart other apart timed = record {
-    timer = timed.timer;
-    known = other_timer other group apart change s ∙ timed.known;
-    not_empty = timed.not_empty;
-  }
+  set_timer_apart other apart timed = grind (arith, other_timer other group apart change s)
 
   set_timer_same : ((timer : GroupTimer) → timer.empty_since ≡ None → (change timer).empty_since ≡ None) → IsTimed s group → IsTimed (set_timer group change s) group
-  set_timer_same keeps timed = record {
-    timer = change timed.timer;
-    known = ap (λ o. get (option_map_or (λ timer. insert s.timers group (change timer)) o s.timers) group) timed.known
-        ∙ get-inserted route_labels_cmp_total route_labels_cmp-IsAntisymmetric s.timers group (change timed.timer);
-    not_empty = keeps timed.timer timed.not_empty;
-  }
+  set_timer_same keeps timed = grind (arith, get-inserted route_labels_cmp_total route_labels_cmp-IsAntisymmetric s.timers group (change timed.timer), keeps timed.timer)
 
   set_timer_keeps : ((timer : GroupTimer) → timer.empty_since ≡ None → (change timer).empty_since ≡ None) → (other : RouteLabels) → IsTimed s other → IsTimed (set_timer group change s) other
-  set_timer_keeps keeps other timed = elim (key_or_apart other group) [
-    | inl same ↦ subst (IsTimed (set_timer group change s)) (sym same) (set_timer_same keeps (subst (IsTimed s) same timed))
-    | inr apart ↦ set_timer_apart other apart.0 timed
-  ]
+  set_timer_keeps keeps other timed = grind (arith, key_or_apart other group, set_timer_same keeps, set_timer_apart other)
 
   timer_reset : (at : Moment) → ((timer : GroupTimer) → timer.empty_since ≡ None → (change timer).empty_since ≡ None) → IsPlaced at s → IsPlaced at (set_timer group change s)
   timer_reset at keeps placed = record {
@@ -129,10 +114,8 @@ module _ (group : RouteLabels) where
   not_dropped : (ms : Members) (s : State) (q : RouteLabels) (copy : Alert) → All (IsApart q) ms → get s.placements q ≡ Some copy
       → get (fold (drop_member group) s ms).placements q ≡ Some copy
   not_dropped [] s q copy differ e = e
-  not_dropped (m ∷ ms) s q copy differ e = not_dropped ms (drop_member group s m) q copy (All-tail (IsApart q) m ms differ) (elim (key_or_apart q (on_route group.route m.0)) [
-    | inl same ↦ absurd (All-head (IsApart q) m ms differ same)
-    | inr apart ↦ get-remove_apart route_labels_cmp_total route_labels_cmp-IsAntisymmetric s.placements (on_route group.route m.0) q apart.1 ∙ e
-  ])
+  not_dropped (m ∷ ms) s q copy differ e = not_dropped ms (drop_member group s m) q copy (All-tail (IsApart q) m ms differ)
+      (grind (arith, All-head (IsApart q) m ms differ, key_or_apart q (on_route group.route m.0), get-remove_apart route_labels_cmp_total route_labels_cmp-IsAntisymmetric s.placements (on_route group.route m.0) q))
 
   still_none : (ms : Members) (s : State) (q : RouteLabels) → get s.placements q ≡ None → get (fold (drop_member group) s ms).placements q ≡ None
   still_none [] s q e = e
@@ -140,12 +123,14 @@ module _ (group : RouteLabels) where
 
   all_dropped : (ms : Members) (s : State) (m : LabelSet × Alert) → Contains ms m → get (fold (drop_member group) s ms).placements (on_route group.route m.0) ≡ None
   all_dropped [] s m h = absurd (none_listed m h)
-  all_dropped (x ∷ xs) s m h = elim (first_or_rest x m xs h) [
-    | inl same ↦ still_none xs (drop_member group s x) (on_route group.route m.0)
-        (subst (λ (y : LabelSet × Alert). get (remove s.placements (on_route group.route x.0)) (on_route group.route y.0) ≡ None) same
-        (get-removed route_labels_cmp_total route_labels_cmp-IsAntisymmetric s.placements (on_route group.route x.0)))
-    | inr later ↦ all_dropped xs (drop_member group s x) m later
-  ]
+  all_dropped (x ∷ xs) s m h =
+      grind (
+        arith,
+        first_or_rest x m xs h,
+        still_none xs (drop_member group s x) (on_route group.route m.0),
+        get-removed route_labels_cmp_total route_labels_cmp-IsAntisymmetric s.placements (on_route group.route x.0),
+        all_dropped xs (drop_member group s x) m,
+      )
 
   -- only members do
   dropped_is : (ms : Members) (s : State) → fold (drop_member group) s ms ≡ record s { placements = (fold (drop_member group) s ms).placements }
@@ -169,12 +154,7 @@ module _ (at now : Moment) (group : RouteLabels) (s : State) (order : now ≤ at
   stays : (labels : LabelSet) (alert : Alert) (route : ℕ) → is_resolved_at at alert ≡ false → get s.placements (on_route route labels) ≡ Some alert
       → All (IsApart group (on_route route labels)) (resolved_of now ms)
   stays labels alert route fires is = each_kept (λ member. is_resolved_at now member.1) (IsHad s.config group s.placements)
-      (IsApart group (on_route route labels))
-      (λ m over has same.
-      let value : ◌≡◌ {A = Option Alert} (Some m.1) (Some alert) = sym has ∙ ap (get s.placements) (sym same) ∙ is in
-      let values : m.1 ≡ alert = cc in
-      let no : true ≡ false = sym over ∙ ap (is_resolved_at now) values ∙ still_resolved now at alert order fires in absurd (cc))
-      ms (each_had s.config group s.placements)
+      (IsApart group (on_route route labels)) (λ m over has same. grind (arith, still_resolved now at alert order fires)) ms (each_had s.config group s.placements)
 
   dropped_placed : IsPlaced at dropped
   dropped_placed = record {
@@ -200,10 +180,13 @@ module _ (at now : Moment) (group : RouteLabels) (s : State) (order : now ≤ at
   marked [] is = record {
     copied = dropped_placed.copied;
     chosen_only = dropped_placed.chosen_only;
-    timed = λ member copy e. elim (key_or_apart (group_key s.config member) group) [
-      | inl same ↦ absurd (none_left is member copy e same)
-      | inr apart ↦ set_timer_apart group (λ timer. record timer { empty_since = Some now }) dropped (group_key s.config member) apart.0 (dropped_placed.timed member copy e)
-    ];
+    timed = λ member copy e. grind (
+      arith,
+      key_or_apart (group_key s.config member) group,
+      none_left is member copy e,
+      dropped_placed.timed member copy e,
+      set_timer_apart group (λ timer. record timer { empty_since = Some now }) dropped (group_key s.config member),
+    );
   }
 
   resolved_dropped : IsPlaced at (drop_resolved now group ms s)

@@ -1,6 +1,5 @@
 -- Moves leave the alerts placed.
-use Rattle.std.specs.Prelude.{◌≡◌, ◌≤◌, Option, Some, None}
-use Rattle.std.proofs.Common.{refl, sym, ap, ◌∙◌, subst, inl, inr}
+use Rattle.std.proofs.Common.{◌≡◌, ◌≤◌, Some, refl, arith}
 use Rattle.amr_labels.specs.Map.{get, remove}
 use Rattle.amr_labels.specs.Labels.{LabelSet, label_set_cmp_total, label_set_cmp-IsAntisymmetric}
 use Rattle.amr_time.specs.Time.{Moment}
@@ -39,24 +38,14 @@ record IsEmptied (s : State) (group : RouteLabels) : Type 0 where
   pub emptied : timer.empty_since ≡ Some since
 
 not_both : (s : State) (group : RouteLabels) → IsTimed s group → IsEmptied s group → ⊥
-not_both s group timed emptied =
-    let same : ◌≡◌ {A = Option GroupTimer} (Some timed.timer) (Some emptied.timer) = sym timed.known ∙ emptied.known in
-    let timers : timed.timer ≡ emptied.timer = cc in
-    let no : ◌≡◌ {A = Option Moment} None (Some emptied.since) = sym timed.not_empty ∙ ap (λ (t : GroupTimer). t.empty_since) timers ∙ emptied.emptied in absurd (cc)
+not_both s group timed emptied = grind arith
 
 module _ (at : Moment) (s : State) (group : RouteLabels) where
   abbrev without_group : State
   without_group = record s { timers = remove s.timers group }
 
   others_timed : (other : RouteLabels) → IsEmptied s group → IsTimed s other → IsTimed without_group other
-  others_timed other emptied timed = elim (key_or_apart other group) [
-    | inl same ↦ absurd (not_both s group (subst (IsTimed s) same timed) emptied)
-    | inr apart ↦ record {
-      timer = timed.timer;
-      known = get-remove_apart route_labels_cmp_total route_labels_cmp-IsAntisymmetric s.timers group other apart.1 ∙ timed.known;
-      not_empty = timed.not_empty;
-    }
-  ]
+  others_timed other emptied timed = grind (arith, key_or_apart other group, not_both s group, get-remove_apart route_labels_cmp_total route_labels_cmp-IsAntisymmetric s.timers group other)
 
   group_removed : IsEmptied s group → IsPlaced at s → IsPlaced at without_group
   group_removed emptied placed = record {

@@ -1,10 +1,8 @@
 -- Posts and reloads leave the alerts placed.
-use Rattle.std.specs.Prelude.{◌≡◌, ℕ, false, List, [], ◌∷◌, ◌⊎◌, Option, Some, None}
-use Rattle.std.specs.List.{All, Contains, fold}
+use Rattle.std.proofs.Common.{[], ◌≡◌, ℕ, false, List, ◌∷◌, ◌⊎◌, Option, Some, None, All, Contains, fold, refl, sym, ap, ◌∙◌, subst, arith, inl, inr}
 use Rattle.std.specs.Ordering.{eq_by_cmp}
-use Rattle.std.proofs.Common.{refl, sym, ap, ◌∙◌, subst, inl, inr}
 use Rattle.std.proofs.lemmas.List.Elements.{All-head, All-tail, All-weaker, All-contains_itself}
-use Rattle.amr_labels.specs.Map.{get, insert, entries, empty, get-empty}
+use Rattle.amr_labels.specs.Map.{get, insert, entries, empty, get-empty, get-insert}
 use Rattle.amr_labels.specs.Labels.{LabelSet, label_set_cmp, label_set_cmp_total, label_set_cmp-IsAntisymmetric}
 use Rattle.amr_time.specs.Time.{Moment, Span}
 use Rattle.amr_config.specs.Stated.Config.{Config}
@@ -19,6 +17,7 @@ use Rattle.amr_engine.specs.Events.{put, with_config}
 use Rattle.amr_engine.specs.Placed.{IsTimed, IsPlaced}
 use Rattle.amr_engine.proofs.Listed.{none_listed, first_or_rest}
 use Rattle.amr_engine.proofs.PlacedLists.{among_entries, same_or_apart, get-inserted, get-insert_apart, get-each}
+use Rattle.amr_engine.proofs.MovesKeep.{fold_holds}
 
 -- two keys are the same, or they differ and compare as different
 pub key_or_apart : (q k : RouteLabels) → (q ≡ k) ⊎ ((q ≡ k → ⊥) × (eq_by_cmp route_labels_cmp q k ≡ false))
@@ -38,20 +37,10 @@ timed_as s t group same timed = record { timer = timed.timer; known = ap (λ m. 
 
 -- alerts are placed in every state with the same configuration, alerts, members and timers
 pub placed_as : (at : Moment) (s t : State) → t.config ≡ s.config → t.alerts ≡ s.alerts → t.placements ≡ s.placements → t.timers ≡ s.timers → IsPlaced at s → IsPlaced at t
-placed_as at s t config alerts placements timers placed = record {
-  copied = λ labels alert is fires route takes.
-      ap (λ m. get m (on_route route labels)) placements
-      ∙ placed.copied labels alert (ap (λ m. get m labels) (sym alerts) ∙ is) fires route (subst (λ (c : Config). Contains (chosen_routes c labels) route) config takes);
-  chosen_only = λ member copy is.
-      subst (λ (c : Config). Contains (chosen_routes c member.labels) member.route) (sym config) (placed.chosen_only member copy (ap (λ m. get m member) (sym placements) ∙ is));
-  timed = λ member copy is.
-      subst (λ (c : Config). IsTimed t (group_key c member)) (sym config)
-      (timed_as s t (group_key s.config member) timers (placed.timed member copy (ap (λ m. get m member) (sym placements) ∙ is)));
-}
+placed_as at s t config alerts placements timers placed = grind arith
 
 timer_opened : (now : Moment) (wait : Span) (alert : Alert) (timer : Option GroupTimer) → (timer_with now wait alert timer).empty_since ≡ None
-timer_opened now wait alert None = refl
-timer_opened now wait alert (Some timer) = refl
+timer_opened now wait alert timer = grind arith
 
 -- ---- an alert on a route
 
@@ -67,14 +56,9 @@ module _ (labels : LabelSet) (alert : Alert) (s : State) (route : ℕ) where
   }
 
   still_timed : (group : RouteLabels) → IsTimed s group → IsTimed (insert_into_group labels alert s route) group
-  still_timed group before = elim (key_or_apart group (group_key s.config (on_route route labels))) [
-    | inl same ↦ subst (IsTimed (insert_into_group labels alert s route)) (sym same) own_group_timed
-    | inr apart ↦ record {
-      timer = before.timer;
-      known = get-insert_apart route_labels_cmp_total route_labels_cmp-IsAntisymmetric s.timers (group_key s.config (on_route route labels)) own_timer group apart.1 ∙ before.known;
-      not_empty = before.not_empty;
-    }
-  ]
+  still_timed group before =
+      let own : RouteLabels = group_key s.config (on_route route labels) in
+      grind (arith, own_group_timed, key_or_apart group own, get-insert route_labels_cmp_total s.timers own own_timer group)
 
   placed_here : get (insert_into_group labels alert s route).placements (on_route route labels) ≡ Some alert
   placed_here = get-inserted route_labels_cmp_total route_labels_cmp-IsAntisymmetric s.placements (on_route route labels) alert
@@ -85,29 +69,17 @@ module _ (labels : LabelSet) (alert : Alert) (s : State) (route : ℕ) where
 
   inserted_one_in_groups : Contains (chosen_routes s.config labels) route → AreInGroups s → AreInGroups (insert_into_group labels alert s route)
   inserted_one_in_groups takes before = record {
-    chosen_only = λ member copy e. elim (key_or_apart member (on_route route labels)) [
-      | inl same ↦ subst (λ (m : RouteLabels). Contains (chosen_routes s.config m.labels) m.route) (sym same) takes
-      | inr apart ↦ before.chosen_only member copy (sym (placed_elsewhere member apart.1) ∙ e)
-    ];
-    timed = λ member copy e. elim (key_or_apart member (on_route route labels)) [
-      | inl same ↦ subst (λ (m : RouteLabels). IsTimed (insert_into_group labels alert s route) (group_key s.config m)) (sym same) own_group_timed
-      | inr apart ↦ still_timed (group_key s.config member) (before.timed member copy (sym (placed_elsewhere member apart.1) ∙ e))
-    ];
+    chosen_only = λ member copy e. grind (arith, key_or_apart member (on_route route labels), placed_elsewhere member, before.chosen_only member copy);
+    timed = λ member copy e. grind (arith, key_or_apart member (on_route route labels), placed_elsewhere member, before.timed member copy, own_group_timed, still_timed (group_key s.config member));
   }
 
   -- the copy on a route stays, since only equal ones are inserted
   still_placed : (n : ℕ) → get s.placements (on_route n labels) ≡ Some alert → get (insert_into_group labels alert s route).placements (on_route n labels) ≡ Some alert
-  still_placed n e = elim (key_or_apart (on_route n labels) (on_route route labels)) [
-    | inl same ↦ ap (get (insert_into_group labels alert s route).placements) same ∙ placed_here
-    | inr apart ↦ placed_elsewhere (on_route n labels) apart.1 ∙ e
-  ]
+  still_placed n e = grind (arith, get-insert route_labels_cmp_total s.placements (on_route route labels) alert (on_route n labels))
 
   -- alerts with other labels stay as they are
   others_stay : (q : RouteLabels) → (q.labels ≡ labels → ⊥) → get (insert_into_group labels alert s route).placements q ≡ get s.placements q
-  others_stay q differ = elim (key_or_apart q (on_route route labels)) [
-    | inl same ↦ absurd (differ (ap (λ (x : RouteLabels). x.labels) same))
-    | inr apart ↦ placed_elsewhere q apart.1
-  ]
+  others_stay q differ = grind (arith, key_or_apart q (on_route route labels), placed_elsewhere q)
 
 -- ---- an alert on all its routes
 
@@ -119,19 +91,15 @@ module _ (labels : LabelSet) (alert : Alert) where
       (inserted_one_in_groups labels alert s r (All-head (Contains (chosen_routes s.config labels)) r rs take) before)
 
   on_each_still : (rs : List ℕ) (s : State) (n : ℕ) → get s.placements (on_route n labels) ≡ Some alert → get (fold (insert_into_group labels alert) s rs).placements (on_route n labels) ≡ Some alert
-  on_each_still [] s n e = e
-  on_each_still (r ∷ rs) s n e = on_each_still rs (insert_into_group labels alert s r) n (still_placed labels alert s r n e)
+  on_each_still rs s n e = fold_holds (λ x. get x.placements (on_route n labels) ≡ Some alert) (insert_into_group labels alert) (λ x r. still_placed labels alert x r n) rs s e
 
   on_each_placed : (rs : List ℕ) (s : State) (n : ℕ) → Contains rs n → get (fold (insert_into_group labels alert) s rs).placements (on_route n labels) ≡ Some alert
   on_each_placed [] s n has = absurd (none_listed n has)
-  on_each_placed (r ∷ rs) s n has = elim (first_or_rest r n rs has) [
-    | inl same ↦ on_each_still rs (insert_into_group labels alert s r) n (subst (λ (x : ℕ). get (insert_into_group labels alert s r).placements (on_route x labels) ≡ Some alert) same (placed_here labels alert s r))
-    | inr later ↦ on_each_placed rs (insert_into_group labels alert s r) n later
-  ]
+  on_each_placed (r ∷ rs) s n has =
+      grind (arith, first_or_rest r n rs has, placed_here labels alert s r, on_each_still rs (insert_into_group labels alert s r) n, on_each_placed rs (insert_into_group labels alert s r) n)
 
   on_each_others : (rs : List ℕ) (s : State) (q : RouteLabels) → (q.labels ≡ labels → ⊥) → get (fold (insert_into_group labels alert) s rs).placements q ≡ get s.placements q
-  on_each_others [] s q differ = refl
-  on_each_others (r ∷ rs) s q differ = on_each_others rs (insert_into_group labels alert s r) q differ ∙ others_stay labels alert s r q differ
+  on_each_others rs s q differ = fold_holds (λ x. get x.placements q ≡ get s.placements q) (insert_into_group labels alert) (λ x r e. others_stay labels alert x r q differ ∙ e) rs s refl
 
   -- only members and timers are changed
   on_each_is : (rs : List ℕ) (s : State) → fold (insert_into_group labels alert) s rs
@@ -174,10 +142,8 @@ module _ (at : Moment) (s : State) (labels : LabelSet) (stored : Alert) where
       → (route : ℕ) → Contains (chosen_routes s.config asked) route → get after.placements (on_route route asked) ≡ Some found
   store_copied placed asked found e fires route takes = elim (labels_or_apart asked labels) [
     | inl same ↦
-        let value : ◌≡◌ {A = Option Alert} (Some stored) (Some found) =
-        sym (get-inserted label_set_cmp_total label_set_cmp-IsAntisymmetric s.alerts labels stored) ∙ ap (get (insert s.alerts labels stored)) (sym same) ∙ e in
-        subst (λ (l : LabelSet). get after.placements (on_route route l) ≡ Some found) (sym same)
-        (inserted_placed with_stored labels stored route (subst (λ (l : LabelSet). Contains (chosen_routes s.config l) route) same takes) ∙ value)
+        let here = inserted_placed with_stored labels stored route (subst (λ (l : LabelSet). Contains (chosen_routes s.config l) route) same takes) in
+        grind (arith, here, get-inserted label_set_cmp_total label_set_cmp-IsAntisymmetric s.alerts labels stored)
     | inr apart ↦
         inserted_others with_stored labels stored (on_route route asked) apart.0
         ∙ placed.copied asked found (sym (get-insert_apart label_set_cmp_total label_set_cmp-IsAntisymmetric s.alerts labels stored asked apart.1) ∙ e) fires route takes
@@ -231,10 +197,7 @@ module _ (labels : LabelSet) (alert : Alert) where
   Agrees e = e.0 ≡ labels → e.1 ≡ alert
 
   placed_again : (s : State) (e : LabelSet × Alert) (n : ℕ) → Agrees e → get s.placements (on_route n labels) ≡ Some alert → get (insert_into_groups s e).placements (on_route n labels) ≡ Some alert
-  placed_again s e n agrees is = elim (labels_or_apart labels e.0) [
-    | inl same ↦ subst (λ (x : LabelSet × Alert). get (insert_into_groups s x).placements (on_route n labels) ≡ Some alert) (λ i. (same i, sym (agrees (sym same)) i)) (inserted_still s labels alert n is)
-    | inr apart ↦ inserted_others s e.0 e.1 (on_route n labels) apart.0 ∙ is
-  ]
+  placed_again s e n agrees is = grind (arith, labels_or_apart labels e.0, inserted_still s labels alert n, inserted_others s e.0 e.1 (on_route n labels))
 
   fold_again : (es : List (LabelSet × Alert)) (s : State) (n : ℕ) → All Agrees es → get s.placements (on_route n labels) ≡ Some alert → get (fold insert_into_groups s es).placements (on_route n labels) ≡ Some alert
   fold_again [] s n agree is = is
@@ -242,21 +205,18 @@ module _ (labels : LabelSet) (alert : Alert) where
 
   fold_placed : (es : List (LabelSet × Alert)) (s : State) (n : ℕ) → All Agrees es → Contains es (labels, alert) → Contains (chosen_routes s.config labels) n → get (fold insert_into_groups s es).placements (on_route n labels) ≡ Some alert
   fold_placed [] s n agree among takes = absurd (none_listed (labels, alert) among)
-  fold_placed (e ∷ es) s n agree among takes = elim (first_or_rest e (labels, alert) es among) [
-    | inl same ↦ fold_again es (insert_into_groups s e) n (All-tail Agrees e es agree)
-        (subst (λ (x : LabelSet × Alert). get (insert_into_groups s x).placements (on_route n labels) ≡ Some alert) (sym same) (inserted_placed s labels alert n takes))
-    | inr later ↦ fold_placed es (insert_into_groups s e) n (All-tail Agrees e es agree) later (subst (λ (c : Config). Contains (chosen_routes c labels) n) (sym (ap (λ (x : State). x.config) (inserted_is s e.0 e.1))) takes)
-  ]
+  fold_placed (e ∷ es) s n agree among takes =
+      let here = first_or_rest e (labels, alert) es among in
+      let rest = All-tail Agrees e es agree in
+      let config = ap (λ (x : State). x.config) (inserted_is s e.0 e.1) in
+      grind (arith, here, config, inserted_placed s labels alert n takes, fold_again es (insert_into_groups s e) n rest, fold_placed es (insert_into_groups s e) n rest)
 
 module _ (at : Moment) (s : State) (config : Config) where
   abbrev emptied : State
   emptied = record s { config = config; placements = empty; timers = empty }
 
   none_in_groups : AreInGroups emptied
-  none_in_groups = record {
-    chosen_only = λ member copy e. let no : ◌≡◌ {A = Option Alert} None (Some copy) = sym (get-empty route_labels_cmp member) ∙ e in absurd (cc);
-    timed = λ member copy e. let no : ◌≡◌ {A = Option Alert} None (Some copy) = sym (get-empty route_labels_cmp member) ∙ e in absurd (cc);
-  }
+  none_in_groups = grind (arith, λ (member : RouteLabels). get-empty {X = Alert} route_labels_cmp member)
 
   entries_agree : (labels : LabelSet) (alert : Alert) → get s.alerts labels ≡ Some alert → All (Agrees labels alert) (entries s.alerts)
   entries_agree labels alert is = All-weaker (λ (e : LabelSet × Alert). get s.alerts e.0 ≡ Some e.1) (Agrees labels alert)

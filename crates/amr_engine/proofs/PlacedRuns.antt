@@ -1,7 +1,5 @@
 -- Events leave the alerts placed, and so does a run.
-use Rattle.std.specs.Prelude.{◌≡◌, List, [], ◌∷◌, ◌++◌, Option, Some, None, Ok}
-use Rattle.std.specs.List.{All}
-use Rattle.std.proofs.Common.{refl, sym, ◌∙◌, subst}
+use Rattle.std.proofs.Common.{[], ◌≡◌, List, ◌∷◌, ◌++◌, Some, Ok, All, refl, sym, subst, arith}
 use Rattle.std.proofs.lemmas.List.Elements.{All-nil, All-push, All-pop}
 use Rattle.amr_labels.specs.Map.{get-empty}
 use Rattle.amr_labels.specs.Labels.{LabelSet, label_set_cmp}
@@ -53,11 +51,7 @@ event_placed = holds_after_event IsPlaced placed_later clock_placed due_placed a
 -- ---- runs
 
 pub start_placed : (config : Config) → ArePlaced (start config)
-start_placed config = record {
-  copied = λ labels alert e. let no : ◌≡◌ {A = Option Alert} None (Some alert) = sym (get-empty label_set_cmp labels) ∙ e in absurd (cc);
-  chosen_only = λ member copy e. let no : ◌≡◌ {A = Option Alert} None (Some copy) = sym (get-empty route_labels_cmp member) ∙ e in absurd (cc);
-  timed = λ member copy e. let no : ◌≡◌ {A = Option Alert} None (Some copy) = sym (get-empty route_labels_cmp member) ∙ e in absurd (cc);
-}
+start_placed config = grind (arith, get-empty {X = Alert} label_set_cmp, get-empty {X = Alert} route_labels_cmp)
 
 -- after every run, the alerts that aren't resolved are placed
 pub run_placed : (config : Config) (events : List Event) → ArePlaced (run_of config events)

@@ -1,9 +1,6 @@
 -- What an action does after the moves of its event, from what was prepared before them.
-use Rattle.std.proofs.Common.{◌≡◌, true, false, ℕ, List, [], ◌∷◌, Bor, Option, None, Some, Ok, Err, length, refl, sym, ap, ◌∙◌, arith}
-use Rattle.std.specs.Prelude.{◌==◌}
-use Rattle.std.specs.Option.{option_map_or}
-use Rattle.std.specs.List.{fold, filter_map}
-use Rattle.amr_labels.specs.Map.{get, insert}
+use Rattle.std.proofs.Common.{◌==◌, fold, filter_map, ◌≡◌, true, false, ℕ, List, Bor, None, Some, Ok, Err, length, refl, sym, ap, ◌∙◌, arith}
+use Rattle.amr_labels.specs.Map.{get}
 use Rattle.amr_labels.specs.Labels.{Text, LabelSet}
 use Rattle.amr_time.specs.Time.{Moment, Span}
 use Rattle.amr_config.specs.Stated.Config.{Config}
@@ -15,7 +12,7 @@ use Rattle.amr_rules.specs.declared.alert.Alert.{Alert}
 use Rattle.amr_rules.specs.declared.silence.Silence.{Silence}
 use Rattle.amr_rules.specs.declared.silence_update.SilenceUpdate.{SilenceUpdate}
 use Rattle.amr_rules.specs.Alerts.{completed_alert}
-use Rattle.amr_rules.specs.Silences.{Silences, after_post, after_expiry, expired_form}
+use Rattle.amr_rules.specs.Silences.{after_post, after_expiry, expired_form}
 use Rattle.amr_rules.specs.Silencing.{with_decision}
 use Rattle.amr_engine.specs.State.State.{State}
 use Rattle.amr_engine.specs.declared.prepare.Prepared.TheVariants as prepared
@@ -27,8 +24,7 @@ abbrev pub Valid : Type 0
 Valid = List (LabelSet × Alert)
 
 put_some : (s : State) (v : Valid) → (length v == 0) ≡ false → put_all s v ≡ Ok (fold put s v)
-put_some s [] h = absurd (cc)
-put_some s (x ∷ v) h = refl
+put_some s v h = grind arith
 
 -- no alert of a post is valid
 pub no_valid : (s : State) (at : Moment) (timeout : Span) (posted : List PostedAlert) → timeout ≡ s.config.resolve_timeout
@@ -64,34 +60,22 @@ pub some_silence : (s : State) (at : Moment) (posted : PostedSilence) (silence_u
     → DoesAsPrepared s at (Act.Silence posted) (prepared.Silence posted.id posted.new_id silence_update)
 unfolding after_act
 some_silence s at posted silence_update own = record {
-  does = λ next stays.
-      ap (λ (now : Moment). on_ok (with_silences next) (after_post now posted next.silences)) stays.moment
-      ∙ ap (λ (kept : Silences). on_ok (with_silences next) (after_post at posted kept)) stays.silences
-      ∙ ap (on_ok (with_silences next)) (sym own)
-      ∙ ap (λ (kept : Silences). Ok (with_silences next (with_decision posted silence_update kept))) (sym stays.silences);
+  does = λ next stays. grind arith;
   skips = λ next stays. refl;
   light = λ next after stays. omega arith;
 }
 
-expires : (at : Moment) (id : ℕ) (silences : Silences) (found : Option Silence) → get silences id ≡ found
-    → after_expiry at id silences ≡ option_map_or (λ silence. Ok (insert silences id (expired_form at silence))) found (Err 18)
-unfolding after_expiry
-expires at id silences found is = ap (λ (o : Option Silence). option_map_or (λ silence. Ok (insert silences id (expired_form at silence))) o (Err 18)) is
-
 -- no silence has the id
 pub no_expiry : (s : State) (at : Moment) (id : ℕ) → get s.silences id ≡ None → after_act (at_moment at s) (Act.Expire id) ≡ Err 18
-unfolding after_act
-no_expiry s at id missing = ap (on_ok (with_silences (at_moment at s))) (expires at id s.silences None missing)
+unfolding after_act after_expiry
+no_expiry s at id missing = grind arith
 
 -- a silence is expired
 pub some_expiry : (s : State) (at : Moment) (id : ℕ) (silence ended : Silence) → get s.silences id ≡ Some silence → ended ≡ expired_form at silence
     → DoesAsPrepared s at (Act.Expire id) (prepared.Expire id ended)
-unfolding after_act
+unfolding after_act after_expiry
 some_expiry s at id silence ended found is = record {
-  does = λ next stays.
-      ap (λ (now : Moment). on_ok (with_silences next) (after_expiry now id next.silences)) stays.moment
-      ∙ ap (on_ok (with_silences next)) (expires at id next.silences (Some silence) (ap (λ (kept : Silences). get kept id) stays.silences ∙ found))
-      ∙ ap (λ (x : Silence). Ok (with_silences next (insert next.silences id x))) (sym is);
+  does = λ next stays. grind arith;
   skips = λ next stays. refl;
   light = λ next after stays. omega arith;
 }

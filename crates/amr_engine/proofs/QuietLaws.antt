@@ -1,21 +1,19 @@
 -- A flush of a quiet group sets the group timer and changes nothing else.
-use Rattle.std.specs.Prelude.{◌≡◌, ℕ, Bool, true, false, not, ◌&&◌, ◌||◌, List, [], ◌∷◌, Option, Some, None, option_map, if◌then◌else◌, ◌+◌, ◌≤◌, ◌<◌, nat_le, nat_lt, length, ◌==◌, cond}
-use Rattle.std.specs.List.{list_all, list_any, find, filter, fold}
+use Rattle.std.proofs.Common.{[], ◌≡◌, ℕ, Bool, true, false, not, ◌&&◌, List, ◌∷◌, Option, Some, None, option_map, if◌then◌else◌, ◌+◌, ◌≤◌, ◌<◌, nat_le, nat_lt, refl, ap, ◌∙◌, arith, inl, inr}
+use Rattle.std.specs.List.{list_all, find, filter, fold}
 use Rattle.std.specs.Option.{option_or, is_none}
-use Rattle.std.proofs.Common.{refl, sym, ap, ◌∙◌, arith, inl, inr}
 use Rattle.std.proofs.lemmas.Bool.Decides.{nat_tests}
-use Rattle.std.proofs.lemmas.Bool.{and_parts, not-true}
+use Rattle.std.proofs.lemmas.Bool.{and_parts}
 use Rattle.amr_labels.specs.Map.{Map, get, entries}
-use Rattle.amr_labels.specs.Labels.{LabelSet, Text}
+use Rattle.amr_labels.specs.Labels.{LabelSet}
 use Rattle.amr_time.specs.Time.{Moment, Span}
 use Rattle.amr_config.specs.declared.stated.rule.InhibitRule.{InhibitRule}
 use Rattle.amr_config.specs.declared.stated.receiver.Integration.{Integration}
 use Rattle.amr_config.specs.Stated.Config.{Config}
-use Rattle.amr_config.specs.Routing.{is_active_at, is_muted_at, is_within, active_intervals_of, mute_intervals_of, integrations_of, repeat_interval_of}
+use Rattle.amr_config.specs.Routing.{is_active_at, is_muted_at, active_intervals_of, mute_intervals_of, integrations_of, repeat_interval_of}
 use Rattle.amr_rules.specs.declared.alert.Alert.{Alert}
 use Rattle.amr_rules.specs.declared.silence.Silence.{Silence}
 use Rattle.amr_rules.specs.declared.dedup.LogEntry.{LogEntry}
-use Rattle.amr_rules.specs.Alerts.{is_resolved_at}
 use Rattle.amr_rules.specs.Muting.{Alerts, inhibits, rule_mutes, inhibition_from, silencer_of, silences_labels}
 use Rattle.amr_rules.specs.Silences.{Silences}
 use Rattle.amr_rules.specs.Dedup.{LabelSets, needs_update}
@@ -23,10 +21,9 @@ use Rattle.amr_config.specs.declared.route_labels.RouteLabels.{RouteLabels}
 use Rattle.amr_config.specs.RouteLabels.{route_labels_cmp}
 use Rattle.amr_engine.specs.State.State.{State, members}
 use Rattle.amr_engine.specs.Stages.{taken_away}
-use Rattle.amr_engine.specs.Flush.{Members, let_through, firing_of, resolved_of, labels_of, log_key_of, record_notification, notify_if_due, notify_receiver, drop_member, mark_if_empty, drop_resolved, run_pipeline, flush}
+use Rattle.amr_engine.specs.Flush.{Members, let_through, firing_of, resolved_of, labels_of, log_key_of, notify_if_due, notify_receiver, drop_resolved, run_pipeline, flush}
 use Rattle.amr_engine.specs.declared.state.notification.GroupTimer.{GroupTimer}
 use Rattle.amr_engine.specs.declared.state.notification.Notification.{Notification}
-use Rattle.amr_labels.specs.Set.{is_subset, is_empty}
 use Rattle.amr_engine.specs.declared.verdict.Finding.TheVariants.{Inhibited, OutsideActive, TimeMuted, Silenced}
 use Rattle.amr_engine.proofs.FewerNotified.{all_filter, fewer_notified}
 use Rattle.amr_engine.proofs.Listed.{none_left}
@@ -35,17 +32,7 @@ use Rattle.amr_engine.specs.Quiet.{is_outside, no_alert_ends, no_source_ends, no
 -- two tests find the same where they agree on each element
 found_same : {X : Type 0} (ok p q : X → Bool) → ((x : X) → ok x ≡ true → p x ≡ q x) → (xs : List X) → list_all ok xs ≡ true → find p xs ≡ find q xs
 found_same ok p q same [] all = refl
-found_same ok p q same (x ∷ xs) all =
-    let parts = and_parts (ok x) (list_all ok xs) all in
-    (λ i. cond (same x parts.0 i) (Some x) (found_same ok p q same xs parts.1 i))
-
--- a dedup check that says no, without its repeated notification
-no_more : (a b c d e : Bool) → (a || b || (c && (d || e))) ≡ false → (a || b || (c && (d || false))) ≡ false
-no_more true b c d e h = absurd (cc)
-no_more false true c d e h = absurd (cc)
-no_more false false false d e h = refl
-no_more false false true true e h = absurd (cc)
-no_more false false true false e h = refl
+found_same ok p q same (x ∷ xs) all = grind (arith, same x, found_same ok p q same xs)
 
 -- two moments between which nothing of a sort happens
 module _ (from until at : Moment) (not_before : from ≤ at) (before : at < until) where
@@ -85,14 +72,10 @@ module _ (from until at : Moment) (not_before : from ≤ at) (before : at < unti
       ap (option_map (λ stored. stored.0)) (found_same _ (λ stored. silences_labels at stored.1 labels) (λ stored. silences_labels from stored.1 labels) (silences_same labels) (entries silences) still)
 
   active_same : (config : Config) (route : ℕ) → is_untimed config route ≡ true → is_active_at config route at ≡ is_active_at config route from
-  active_same config route untimed =
-      let none = none_left (active_intervals_of config route) (and_parts (length (active_intervals_of config route) == 0) (length (mute_intervals_of config route) == 0) untimed).0 in
-      ap (λ (names : List Text). (length names == 0) || list_any (is_within config at) names) none ∙ sym (ap (λ (names : List Text). (length names == 0) || list_any (is_within config from) names) none)
+  active_same config route untimed = grind (arith, nat_tests, none_left (active_intervals_of config route))
 
   muted_same : (config : Config) (route : ℕ) → is_untimed config route ≡ true → is_muted_at config route at ≡ is_muted_at config route from
-  muted_same config route untimed =
-      let none = none_left (mute_intervals_of config route) (and_parts (length (active_intervals_of config route) == 0) (length (mute_intervals_of config route) == 0) untimed).1 in
-      ap (list_any (is_within config at)) none ∙ sym (ap (list_any (is_within config from)) none)
+  muted_same config route untimed = grind (arith, nat_tests, none_left (mute_intervals_of config route))
 
   taken_same : (s : State) (route : ℕ) → IsStill s from until → is_untimed s.config route ≡ true
       → (labels : LabelSet) → taken_away s at route labels ≡ taken_away s from route labels
@@ -105,20 +88,13 @@ module _ (from until at : Moment) (not_before : from ≤ at) (before : at < unti
 
   -- ---- which members fire
 
-  resolved_not : (alert : Alert) → nat_le until alert.ends_at ≡ true → is_resolved_at at alert ≡ false
-  resolved_not alert fires = grind (arith, nat_tests)
-
   pub firing_all : (ms : Members) → all_fire_until until ms ≡ true → firing_of at ms ≡ ms
   firing_all [] fire = refl
-  firing_all (m ∷ ms) fire =
-      let parts = and_parts (nat_le until m.1.ends_at) (all_fire_until until ms) fire in
-      (λ i. cond (not (resolved_not m.1 parts.0 i)) (m ∷ firing_all ms parts.1 i) (firing_all ms parts.1 i))
+  firing_all (m ∷ ms) fire = grind (arith, nat_tests, firing_all ms)
 
   pub resolved_none : (ms : Members) → all_fire_until until ms ≡ true → resolved_of at ms ≡ []
   resolved_none [] fire = refl
-  resolved_none (m ∷ ms) fire =
-      let parts = and_parts (nat_le until m.1.ends_at) (all_fire_until until ms) fire in
-      (λ i. cond (resolved_not m.1 parts.0 i) (m ∷ resolved_none ms parts.1 i) (resolved_none ms parts.1 i))
+  resolved_none (m ∷ ms) fire = grind (arith, nat_tests, resolved_none ms)
 
   fire_kept : (p : LabelSet × Alert → Bool) (ms : Members) → all_fire_until until ms ≡ true → all_fire_until until (filter p ms) ≡ true
   fire_kept p ms fire = all_filter (λ (m : LabelSet × Alert). nat_le until m.1.ends_at) p ms fire
@@ -129,28 +105,19 @@ module _ (from until at : Moment) (not_before : from ≤ at) (before : at < unti
       → needs_update entry firing resolved send_resolved from interval ≡ false → no_repeat_before until interval entry ≡ true
       → needs_update entry firing resolved send_resolved at interval ≡ false
   unfolding needs_update
-  still_notified None firing resolved send_resolved interval notified later = notified
-  still_notified (Some entry) firing resolved send_resolved interval notified later =
-      let not_yet : nat_lt (entry.time + interval) at ≡ false = grind (arith, nat_tests) in
-      ap (λ late. not (is_subset firing entry.firing) || (is_empty firing && not (is_empty entry.firing)) || (not (is_empty firing) && ((send_resolved && not (is_subset resolved entry.resolved)) || late))) not_yet
-      ∙ no_more (not (is_subset firing entry.firing)) (is_empty firing && not (is_empty entry.firing)) (not (is_empty firing)) (send_resolved && not (is_subset resolved entry.resolved))
-      (nat_lt (entry.time + interval) from) notified
+  still_notified entry firing resolved send_resolved interval notified later = grind (arith, nat_tests)
 
   notify_none : (s : State) (group : RouteLabels) (ms : Members) → all_fire_until until ms ≡ true → (integration : Integration) → is_notified s group from until (labels_of ms) integration ≡ true
       → notify_if_due at group ms s integration ≡ s
   unfolding notify_if_due
   notify_none s group ms fire integration notified =
-      let parts = and_parts _ _ notified in
-      ap (λ b. if b then record_notification at group (log_key_of s.config group integration) integration.send_resolved ms s else s)
-      ((λ i. needs_update (get s.log (log_key_of s.config group integration)) (labels_of (firing_all ms fire i)) (labels_of (resolved_none ms fire i)) integration.send_resolved at (repeat_interval_of s.config group.route))
-      ∙ still_notified (get s.log (log_key_of s.config group integration)) (labels_of ms) (labels_of []) integration.send_resolved (repeat_interval_of s.config group.route) (not-true _ parts.0) parts.1)
+      grind (arith, firing_all ms fire, resolved_none ms fire, still_notified (get s.log (log_key_of s.config group integration)) (labels_of ms) (labels_of []) integration.send_resolved (repeat_interval_of s.config group.route))
 
   notify_integrations_none : (s : State) (group : RouteLabels) (ms : Members) → all_fire_until until ms ≡ true → (integrations : List Integration)
       → list_all (is_notified s group from until (labels_of ms)) integrations ≡ true → fold (notify_if_due at group ms) s integrations ≡ s
   notify_integrations_none s group ms fire [] notified = refl
   notify_integrations_none s group ms fire (integration ∷ integrations) notified =
-      let parts = and_parts (is_notified s group from until (labels_of ms) integration) (list_all (is_notified s group from until (labels_of ms)) integrations) notified in
-      ap (λ (x : State). fold (notify_if_due at group ms) x integrations) (notify_none s group ms fire integration parts.0) ∙ notify_integrations_none s group ms fire integrations parts.1
+      grind (arith, notify_none s group ms fire integration, notify_integrations_none s group ms fire integrations)
 
   notify_receiver_none : (s : State) (group : RouteLabels) (ms : Members) → all_fire_until until ms ≡ true → are_notified s group from until ms ≡ true → notify_receiver at group ms s ≡ s
   notify_receiver_none s group [] fire notified = refl
@@ -158,7 +125,7 @@ module _ (from until at : Moment) (not_before : from ≤ at) (before : at < unti
 
   drop_none : (s : State) (group : RouteLabels) (m : LabelSet × Alert) (ms : Members) → all_fire_until until (m ∷ ms) ≡ true → drop_resolved at group (m ∷ ms) s ≡ s
   unfolding drop_resolved
-  drop_none s group m ms fire = λ i. mark_if_empty at group (firing_all (m ∷ ms) fire i) (fold (drop_member group) s (resolved_none (m ∷ ms) fire i))
+  drop_none s group m ms fire = grind (arith, firing_all (m ∷ ms) fire, resolved_none (m ∷ ms) fire)
 
   -- ---- the flush
 
@@ -167,14 +134,12 @@ module _ (from until at : Moment) (not_before : from ≤ at) (before : at < unti
   pipeline_none s group (m ∷ ms) (inl quiet) =
       let through : let_through s at group.route (m ∷ ms) ≡ let_through s from group.route (m ∷ ms) =
       (λ i. filter (λ member. is_none (taken_same s group.route quiet.still quiet.untimed member.0 i)) (m ∷ ms)) in
-      let fire : all_fire_until until (let_through s from group.route (m ∷ ms)) ≡ true = fire_kept (λ member. is_none (taken_away s from group.route member.0)) (m ∷ ms) quiet.fire in
-      ap (λ (ps : Members). drop_resolved at group (m ∷ ms) (notify_receiver at group ps s)) through
-      ∙ ap (drop_resolved at group (m ∷ ms)) (notify_receiver_none s group (let_through s from group.route (m ∷ ms)) fire quiet.notified)
-      ∙ drop_none s group m ms quiet.fire
+      let fire = fire_kept (λ member. is_none (taken_away s from group.route member.0)) (m ∷ ms) quiet.fire in
+      grind (arith, through, notify_receiver_none s group (let_through s from group.route (m ∷ ms)) fire quiet.notified, drop_none s group m ms quiet.fire)
   pipeline_none s group (m ∷ ms) (inr notified) =
       let through : LabelSet × Alert → Bool = λ member. is_none (taken_away s at group.route member.0) in
-      ap (drop_resolved at group (m ∷ ms)) (notify_receiver_none s group (filter through (m ∷ ms)) (fire_kept through (m ∷ ms) notified.fire) (fewer_notified s group from until through (m ∷ ms) notified.notified))
-      ∙ drop_none s group m ms notified.fire
+      let none = notify_receiver_none s group (filter through (m ∷ ms)) (fire_kept through (m ∷ ms) notified.fire) (fewer_notified s group from until through (m ∷ ms) notified.notified) in
+      grind (arith, none, drop_none s group m ms notified.fire)
 
 -- ---- what keeps a group quiet
 

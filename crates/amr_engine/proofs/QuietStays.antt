@@ -1,12 +1,8 @@
 -- What leaves a group quiet: the clock, group timers, notifications, and the flush of another group.
-use Rattle.std.specs.Prelude.{◌≡◌, Bool, true, false, not, List, [], ◌∷◌, None, Some, cond, map}
-use Rattle.std.specs.Option.{option_map_or}
-use Rattle.std.specs.List.{All, filter, fold}
-use Rattle.std.specs.declared.cmp.Ordering.{Ordering}
+use Rattle.std.proofs.Common.{[], ◌≡◌, Bool, true, false, not, List, ◌∷◌, Some, map, cond, All, filter, fold, Ordering, refl, sym, ap, ◌∙◌, subst, arith}
 use Rattle.std.specs.Ordering.{eq_by_cmp}
 use Rattle.std.specs.FinMap.{IsAntisymmetric}
 use Rattle.std.specs.FinMap.Entries.{where_key}
-use Rattle.std.proofs.Common.{refl, sym, ap, ◌∙◌, subst}
 use Rattle.std.proofs.lemmas.List.Elements.{All-head, All-tail, All-map, All-filter}
 use Rattle.std.proofs.lemmas.Map.Views.{tells_apart}
 use Rattle.amr_labels.specs.Map.{get, insert, remove, entries, get-insert, entries-retain_keys}
@@ -25,7 +21,7 @@ use Rattle.amr_config.specs.RouteLabels.{on_route, route_labels_cmp, route_label
 use Rattle.amr_engine.specs.State.State.{State, log_key_cmp_total, log_key_cmp-IsAntisymmetric, group_key, members}
 use Rattle.amr_engine.specs.Flush.{Members, firing_of, resolved_of, log_key_of, notify_receiver, set_timer, drop_member, mark_if_empty, drop_resolved, run_pipeline, flush, let_through}
 use Rattle.amr_engine.proofs.MovesKeep.{notify_receiver_holds}
-use Rattle.amr_engine.proofs.PlacedLists.{each_kept, get-insert_apart}
+use Rattle.amr_engine.proofs.PlacedLists.{each_kept}
 use Rattle.amr_engine.proofs.QuietLaws.{still_alike, through_alike, quiet_alike}
 use Rattle.amr_engine.specs.Quiet.{with_timer_reset, IsQuietWith, IsQuiet, LeavesOthers}
 
@@ -57,33 +53,17 @@ quiet_left flushed s t same group other keys from until quiet =
 
 -- different keys don't compare as equal
 pub apart : {K : Type 0} {R : K → K → Ordering} → IsAntisymmetric R → (a b : K) → (a ≡ b → ⊥) → eq_by_cmp R a b ≡ false
-apart {R = R} exact a b differ =
-    elim (eq_by_cmp R a b) as (λ c. eq_by_cmp R a b ≡ c → c ≡ false) [
-      | true ↦ λ e. absurd (differ (tells_apart exact a b e))
-      | false ↦ λ e. refl
-    ] refl
+apart exact a b differ = grind (arith, tells_apart exact a b)
 
 -- the timer of another group stays as it is
 pub other_timer : (group other : RouteLabels) → (group ≡ other → ⊥) → (change : GroupTimer → GroupTimer) (s : State) → get (set_timer other change s).timers group ≡ get s.timers group
-other_timer group other differ change s =
-    elim (get s.timers other) as (λ o. get (option_map_or (λ timer. insert s.timers other (change timer)) o s.timers) group ≡ get s.timers group) [
-      | None ↦ refl
-      | Some timer ↦ get-insert_apart route_labels_cmp_total route_labels_cmp-IsAntisymmetric s.timers other (change timer) group (apart route_labels_cmp-IsAntisymmetric group other differ)
-    ]
+other_timer group other differ change s = grind (arith, get-insert route_labels_cmp_total s.timers other, tells_apart route_labels_cmp-IsAntisymmetric group other)
 
 -- removing a key leaves the entries that a test keeps, if it doesn't keep that key's
 kept_without : {K X : Type 0} (R : K → K → Ordering) (p : K × X → Bool) (test : K → Bool) → ((e : K × X) → p e ≡ true → test e.0 ≡ true) → (es : List (K × X))
     → filter p (where_key R test es) ≡ filter p es
 kept_without R p test others [] = refl
-kept_without R p test others (e ∷ es) =
-    let rest = kept_without R p test others es in
-    elim (test e.0) as (λ b. test e.0 ≡ b → filter p (cond b (e ∷ where_key R test es) (where_key R test es)) ≡ cond (p e) (e ∷ filter p es) (filter p es)) [
-      | true ↦ λ is. (λ i. cond (p e) (e ∷ rest i) (rest i))
-      | false ↦ λ is. elim (p e) as (λ c. p e ≡ c → filter p (where_key R test es) ≡ cond c (e ∷ filter p es) (filter p es)) [
-        | true ↦ λ has. absurd (cc (others e has))
-        | false ↦ λ has. rest
-      ] refl
-    ] refl
+kept_without R p test others (e ∷ es) = grind (arith, kept_without R p test others es, others e)
 
 -- the member belongs to the group
 abbrev BelongsTo : Config → RouteLabels → LabelSet × Alert → Type 0
@@ -131,8 +111,7 @@ module _ (flushed : RouteLabels) where
   stays_member : (config : Config) (group : RouteLabels) → (group ≡ flushed → ⊥) → (gone : RouteLabels) → group_key config gone ≡ flushed → (placement : RouteLabels × Alert)
       → eq_by_cmp route_labels_cmp (group_key config placement.0) group ≡ true → not (eq_by_cmp route_labels_cmp gone placement.0) ≡ true
   stays_member config group other gone of placement in_group =
-      ap not (apart route_labels_cmp-IsAntisymmetric gone placement.0 (λ e.
-      other (sym (tells_apart route_labels_cmp-IsAntisymmetric (group_key config placement.0) group in_group) ∙ ap (group_key config) (sym e) ∙ of)))
+      grind (arith, tells_apart route_labels_cmp-IsAntisymmetric gone placement.0, tells_apart route_labels_cmp-IsAntisymmetric (group_key config placement.0) group)
 
   drop_member_leaves : (s : State) (member : LabelSet × Alert) → BelongsTo s.config flushed member → LeavesOthers flushed s (drop_member flushed s member)
   unfolding members remove

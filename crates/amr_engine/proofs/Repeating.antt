@@ -1,10 +1,9 @@
 -- A flush writes an entry again with the same sets only after the repeat interval.
-use Rattle.std.specs.Prelude.{◌≡◌, ◌⊎◌, ◌<◌, ◌+◌, Bool, true, false, not, ◌&&◌, ◌||◌, [], ◌∷◌, Some, nat_lt}
-use Rattle.std.proofs.Common.{refl, sym, ap, ◌∙◌, subst, inl, inr}
+use Rattle.std.proofs.Common.{[], ◌≡◌, ◌⊎◌, ◌<◌, ◌+◌, Bool, true, ◌∷◌, Some, refl, sym, ap, ◌∙◌, subst, inl, inr, arith}
 use Rattle.std.proofs.lemmas.List.Folds.{list_all-map}
-use Rattle.std.proofs.lemmas.Bool.{cond_both, ltb-true}
+use Rattle.std.proofs.lemmas.Bool.{cond_both}
 use Rattle.amr_labels.specs.Map.{get, insert, entries}
-use Rattle.amr_labels.specs.Set.{contains, is_subset, is_empty}
+use Rattle.amr_labels.specs.Set.{contains, is_subset}
 use Rattle.amr_time.specs.Time.{Moment, Span}
 use Rattle.amr_config.specs.declared.stated.receiver.Integration.{Integration}
 use Rattle.amr_config.specs.Stated.Config.{Config}
@@ -24,25 +23,16 @@ use Rattle.amr_engine.specs.Told.{RepeatsWait}
 use Rattle.amr_engine.specs.Moves.{move, move_of_kind}
 use Rattle.amr_engine.proofs.MovesKeep.{fold_holds, drop_holds}
 use Rattle.amr_engine.proofs.PlacedLists.{same_or_apart, get-inserted, get-insert_apart}
+use Rattle.std.proofs.lemmas.Bool.Decides.{nat_tests}
 
 -- ---- the dedup check of the sets that are there already
 
 all_contained : (found : LabelSets) → is_subset found found ≡ true
 all_contained found = list_all-map (contains found) (λ e. e.0) (entries found) ∙ items_contained found
 
-only_late : (all ended none sent all_resolved late : Bool) → all ≡ true → ended ≡ none → all_resolved ≡ true
-    → (not all || (none && not ended) || (not none && ((sent && not all_resolved) || late))) ≡ true → late ≡ true
-only_late true true true sent true late e f g due = absurd (cc)
-only_late true false false true true late e f g due = due
-only_late true false false false true late e f g due = due
-only_late all ended none sent all_resolved late e f g due = absurd (cc)
-
 same_again : (old : LogEntry) (send_resolved : Bool) (now : Moment) (interval : Span) → needs_update (Some old) old.firing old.resolved send_resolved now interval ≡ true → old.time + interval < now
 unfolding needs_update
-same_again old send_resolved now interval due =
-    ltb-true (old.time + interval) now
-    (only_late (is_subset old.firing old.firing) (is_empty old.firing) (is_empty old.firing) send_resolved (is_subset old.resolved old.resolved) (nat_lt (old.time + interval) now)
-    (all_contained old.firing) refl (all_contained old.resolved) due)
+same_again old send_resolved now interval due = grind (arith, nat_tests, all_contained old.firing, all_contained old.resolved)
 
 -- ---- the turns of the integrations
 
@@ -86,11 +76,7 @@ module _ (at : Moment) (group : RouteLabels) (ms : Members) (config : Config) (k
       → (new ≡ old) ⊎ (old.time + repeat_interval_of config group.route < new.time)
   waits s new is found firing resolved = elim is.1 [
     | inl was ↦ let same : new ≡ old = cc in inl same
-    | inr now ↦
-        let same : written ≡ new = cc in
-        let due : needs_update (Some old) old.firing old.resolved now.1.0 at (repeat_interval_of config group.route) ≡ true =
-        (λ i. needs_update (Some old) (sym (ap (λ (x : LogEntry). x.firing) same ∙ firing) i) (sym (ap (λ (x : LogEntry). x.resolved) same ∙ resolved) i) now.1.0 at (repeat_interval_of config group.route)) ∙ now.1.1 in
-        inr (subst (λ t. old.time + repeat_interval_of config group.route < t) (ap (λ (x : LogEntry). x.time) same) (same_again old now.1.0 at (repeat_interval_of config group.route) due))
+    | inr now ↦ inr (let later : old.time + repeat_interval_of config group.route < new.time = grind (arith, same_again old now.1.0 at (repeat_interval_of config group.route)) in later)
   ]
 
 -- ---- a flush

@@ -1,7 +1,5 @@
 -- Runs: what is run within a limit is the only run, if it has no more steps.
-use Rattle.std.specs.Prelude.{◌≡◌, ℕ, zero, suc, List, [], ◌∷◌, Option, Some, None, length, ◌≤◌, ◌++◌}
-use Rattle.std.specs.Option.{option_map, option_map_or}
-use Rattle.std.proofs.Common.{refl, sym, ap, ◌∙◌, subst, arith}
+use Rattle.std.proofs.Common.{[], ◌≡◌, ℕ, zero, suc, List, ◌∷◌, Option, Some, None, length, ◌≤◌, ◌++◌, option_map, refl, sym, ap, ◌∙◌, subst, arith}
 use Rattle.amr_engine.specs.Runs as run
 
 module _ {S D : Type 0} (next : S → Option D) (step : D → S → S) where
@@ -24,16 +22,8 @@ module _ {S D : Type 0} (next : S → Option D) (step : D → S → S) where
   -- is run within a limit
   pub run_holds : (P : ℕ → S → Option (List D × S) → Type 0) → ((limit : ℕ) (s : S) → next s ≡ None → P limit s (ran [] s)) → ((s : S) (d : D) → next s ≡ Some d → P 0 s None)
       → ((limit : ℕ) (s : S) (d : D) (o : Option (List D × S)) → next s ≡ Some d → P limit (step d s) o → P (suc limit) s (option_map (after_step d) o)) → (limit : ℕ) (s : S) → P limit s (run_within limit s)
-  run_holds P none over more zero s =
-      elim (next s) as (λ o. next s ≡ o → P 0 s (option_map_or (λ d. None) o (ran [] s))) [
-        | None ↦ λ is. none 0 s is
-        | Some d ↦ λ is. over s d is
-      ] refl
-  run_holds P none over more (suc limit) s =
-      elim (next s) as (λ o. next s ≡ o → P (suc limit) s (option_map_or (λ d. option_map (after_step d) (run_within limit (step d s))) o (ran [] s))) [
-        | None ↦ λ is. none (suc limit) s is
-        | Some d ↦ λ is. more limit s d (run_within limit (step d s)) is (run_holds P none over more limit (step d s))
-      ] refl
+  run_holds P none over more zero s = grind (arith, none 0 s, over s)
+  run_holds P none over more (suc limit) s = grind (arith, none (suc limit) s, λ (d : D). more limit s d (run_within limit (step d s)), λ (d : D). run_holds P none over more limit (step d s))
 
   -- what is run within a limit is a run, of no more steps
   abbrev IsSound : ℕ → S → Option (List D × S) → Type 0
@@ -47,33 +37,26 @@ module _ {S D : Type 0} (next : S → Option D) (step : D → S → S) where
       subst (λ (x : List D × S). Runs s x.0 x.1 × (length x.0 ≤ suc limit)) parts ((is, r.0), omega (arith, r.1))
 
   at_end : (limit : ℕ) (s : S) → next s ≡ None → IsSound limit s (ran [] s)
-  at_end limit s is ds end e =
-      let parts : ◌≡◌ {A = List D × S} ([], s) (ds, end) = cc in
-      subst (λ (x : List D × S). Runs s x.0 x.1 × (length x.0 ≤ limit)) parts ((is, refl), omega arith)
+  at_end limit s is ds end e = grind arith
 
   pub run_within-sound : (limit : ℕ) (s : S) (ds : List D) (end : S) → run_within limit s ≡ ran ds end → Runs s ds end × (length ds ≤ limit)
   run_within-sound = run_holds IsSound at_end (λ s d is ds end e. absurd (cc)) by_steps
 
   -- a run of no more steps is what is run within the limit
   pub run_within-complete : (limit : ℕ) (s : S) (ds : List D) (end : S) → Runs s ds end → length ds ≤ limit → run_within limit s ≡ ran ds end
-  run_within-complete zero s [] end r h = ap (λ o. option_map_or (λ d. None) o (ran [] s)) r.0 ∙ ap (λ (x : S). ran [] x) r.1
-  run_within-complete (suc limit) s [] end r h = ap (λ o. option_map_or (λ d. option_map (after_step d) (run_within limit (step d s))) o (ran [] s)) r.0 ∙ ap (λ (x : S). ran [] x) r.1
+  run_within-complete zero s [] end r h = grind arith
+  run_within-complete (suc limit) s [] end r h = grind arith
   run_within-complete zero s (d ∷ ds) end r h = absurd (omega arith)
-  run_within-complete (suc limit) s (d ∷ ds) end r h =
-      ap (λ o. option_map_or (λ d. option_map (after_step d) (run_within limit (step d s))) o (ran [] s)) r.0
-      ∙ ap (option_map (after_step d)) (run_within-complete limit (step d s) ds end r.1 (omega arith))
+  run_within-complete (suc limit) s (d ∷ ds) end r h = let rest = run_within-complete limit (step d s) ds end r.1 (omega arith) in grind (arith, rest)
 
   -- nothing is run within a limit if one more step is next
   pub run_within-none : (limit : ℕ) (s : S) (ds : List D) → length ds ≡ suc limit → Begins s ds → run_within limit s ≡ None
   run_within-none limit s [] h b = absurd (omega arith)
-  run_within-none zero s (d ∷ ds) h b = ap (λ o. option_map_or (λ d. None) o (ran [] s)) b.0
-  run_within-none (suc limit) s (d ∷ ds) h b =
-      ap (λ o. option_map_or (λ d. option_map (after_step d) (run_within limit (step d s))) o (ran [] s)) b.0
-      ∙ ap (option_map (after_step d)) (run_within-none limit (step d s) ds (omega arith) b.1)
+  run_within-none zero s (d ∷ ds) h b = grind arith
+  run_within-none (suc limit) s (d ∷ ds) h b = let rest = run_within-none limit (step d s) ds (omega arith) b.1 in grind (arith, rest)
 
   no_rest : (d : D) (o : Option (List D × S)) → option_map (after_step d) o ≡ None → o ≡ None
-  no_rest d None e = refl
-  no_rest d (Some x) e = absurd (cc)
+  no_rest d o e = grind arith
 
   -- nothing is run within a limit only if one more step is next
   pub none-run_within : (limit : ℕ) (s : S) → run_within limit s ≡ None → (ds : List D) × (length ds ≡ suc limit) × Begins s ds
@@ -96,11 +79,10 @@ module _ {S D : Type 0} (next later : S → Option D) (step : D → S → S) (ag
 
   -- if the longer run ends, so does a shorter one, in no more steps
   pub Runs-shorter : (s : S) (es : List D) (end : S) → run.Runs later step s es end → (ds : List D) × (mid : S) × (length ds ≤ length es) × run.Runs next step s ds mid
-  Runs-shorter s [] end q = ([], s, omega arith, (none_next s (next s) refl q.0, refl))
+  Runs-shorter s [] end q = ([], s, omega arith, (none_next (next s) refl, refl))
     where
-      none_next : (s : S) (o : Option D) → next s ≡ o → later s ≡ None → next s ≡ None
-      none_next s None is none = is
-      none_next s (Some d) is none = absurd (cc (agree s d is))
+      none_next : (o : Option D) → next s ≡ o → o ≡ None
+      none_next o is = grind (arith, agree s, q.0)
   Runs-shorter s (e ∷ es) end q =
       elim (next s) as (λ o. next s ≡ o → (ds : List D) × (mid : S) × (length ds ≤ length (e ∷ es)) × run.Runs next step s ds mid) [
         | None ↦ λ is. ([], s, omega arith, (is, refl))

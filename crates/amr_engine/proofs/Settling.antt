@@ -1,6 +1,5 @@
 -- What an event leaves in the store: its record is closed if it is accepted, and else put back.
-use Rattle.std.specs.Prelude.{◌≡◌, ℕ, true, if◌then◌else◌, List, [], ◌∷◌, ◌++◌, length, ◌<◌, ◌≤◌, ◌*◌}
-use Rattle.std.proofs.Common.{sym, ap, subst, ◌∙◌, arith}
+use Rattle.std.proofs.Common.{[], ◌≡◌, true, List, ◌∷◌, ◌++◌, length, ◌<◌, ◌≤◌, ◌*◌, ap, ◌∙◌, arith}
 use Rattle.std.proofs.lemmas.List.{nil_from_length}
 use Rattle.amr_events.specs.Actions.Events.{Event, is_label}
 use Rattle.amr_engine.specs.declared.state.change.Change.{Change}
@@ -10,7 +9,7 @@ use Rattle.amr_engine.specs.State.Records.{put_back, befores}
 use Rattle.amr_engine.proofs.StateLemmas.Undoing.{befores_push, length-befores, undone-idle}
 use Rattle.amr_engine.specs.Events.{after_event}
 use Rattle.amr_engine.specs.Kept.{IsEmptyIfRefused, IsLight, Settled}
-use Rattle.amr_engine.specs.Weight.{run_weight, event_weight}
+use Rattle.amr_engine.specs.Weight.{event_weight}
 use Rattle.amr_events.specs.declared.posts.reason.Reason.{Reason}
 use Rattle.amr_engine.specs.declared.outcome.Outcome.{Outcome}
 use Rattle.amr_engine.specs.declared.outcome.Outcome.TheVariants.{Refused}
@@ -33,24 +32,13 @@ pub settled_undone : (begun : Kept) (event : Event) (tried left : Kept) (reason 
     → left ≡ before_open_record tried → Settled begun event left (Refused reason)
 settled_undone begun event tried left reason idle state kept is =
     let whole : left ≡ begun = is ∙ kept ∙ undone-idle begun idle in
-    record {
-      undone_is = ap before_open_record whole ∙ undone-idle begun idle;
-      state = ap (λ (k : Kept). k.state) whole ∙ state;
-      empty = no_current left tried is;
-      short = omega (arith, ap length (no_current left tried is));
-    }
+    grind (arith, whole, undone-idle begun idle)
 
 -- the record of a label is empty
 pub label_entryless : (s after : State) (event : Event) (r : List Change) → length r ≤ 4 * event_weight s event after → is_label event.act ≡ true → r ≡ []
-label_entryless s after event r short h =
-    let none : event_weight s event after ≡ 0 = ap (λ b. if b then 0 else run_weight s event after) h in
-    nil_from_length r (omega (arith, none, short))
+label_entryless s after event r short h = nil_from_length r (grind arith)
 
 module _ (begun left : Kept) (e : before_open_record left ≡ begun) where
-  pub room_is : left.room ≡ begun.room
-  unfolding before_open_record
-  room_is = ap (λ (k : Kept). k.room) e
-
   pub records_are : left.records ≡ begun.records
   unfolding before_open_record
   records_are = ap (λ (k : Kept). k.records) e
@@ -60,14 +48,14 @@ module _ (begun left : Kept) (e : before_open_record left ≡ begun) where
   state_back = ap (λ (k : Kept). k.state) e
 
   pub has_room : 0 < begun.room → 0 < left.room
-  has_room h = subst (λ (n : ℕ). 0 < n) (sym room_is) h
+  unfolding before_open_record
+  has_room h = grind arith
 
   -- the states before the events, with the record closed
   pub past_is : (closed : Kept) → closed.state ≡ left.state → closed.records ≡ left.records ++ left.current ∷ []
       → befores closed.records closed.state ≡ befores begun.records begun.state ++ begun.state ∷ []
-  past_is closed same added =
-      (λ i. befores (added i) (same i)) ∙ befores_push left.records left.current left.state
-      ∙ (λ i. befores (records_are i) (state_back i) ++ state_back i ∷ [])
+  unfolding before_open_record
+  past_is closed same added = grind (arith, befores_push left.records left.current left.state)
 
 -- after a failed event, the store is the one before
 pub put_back_whole : (begun tried after : Kept) → begun.current ≡ [] → before_open_record tried ≡ before_open_record begun → after ≡ before_open_record tried → after ≡ begun
@@ -80,9 +68,7 @@ is_idle before after is = no_current after before is
 pub past_undone : (before reopened after : Kept) → reopened.state ≡ before.state → before.records ≡ reopened.records ++ reopened.current ∷ [] → after ≡ before_open_record reopened
     → befores before.records before.state ≡ befores after.records after.state ++ after.state ∷ []
 unfolding before_open_record
-past_undone before reopened after same opened is =
-    (λ i. befores (opened i) (sym same i)) ∙ befores_push reopened.records reopened.current reopened.state
-    ∙ ap (λ (k : Kept). befores k.records k.state ++ k.state ∷ []) (sym is)
+past_undone before reopened after same opened is = grind (arith, befores_push reopened.records reopened.current reopened.state)
 
 pub records_undone : (reopened after : Kept) → after ≡ before_open_record reopened → after.records ≡ reopened.records
 unfolding before_open_record
@@ -90,9 +76,7 @@ records_undone reopened after is = ap (λ (k : Kept). k.records) is
 
 -- there is a record for each event
 pub some_record : (store : Kept) (past : List State) → befores store.records store.state ≡ past → 0 < length past → 0 < length store.records
-some_record store past is h =
-    let same : length past ≡ length store.records = ap length (sym is) ∙ length-befores store.records store.state in
-    omega (arith, same, h)
+some_record store past is h = grind (arith, length-befores store.records store.state)
 
 pub no_past : (store : Kept) → store.records ≡ [] → befores store.records store.state ≡ []
 unfolding befores

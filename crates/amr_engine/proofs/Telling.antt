@@ -1,16 +1,12 @@
 -- After a flush each integration of the group's receiver was notified of each member that fires and
 -- that no stage mutes.
-use Rattle.std.specs.Prelude.{◌≡◌, ℕ, Bool, true, false, not, ◌||◌, List, [], ◌∷◌, ◌++◌, Option, Some, None, map}
-use Rattle.std.specs.List.{fold, Contains}
-use Rattle.std.specs.Option.{is_none}
-use Rattle.std.proofs.Common.{refl, sym, ap, ◌∙◌, subst, inl, inr}
+use Rattle.std.proofs.Common.{[], ◌≡◌, ℕ, Bool, true, false, not, List, ◌∷◌, ◌++◌, Option, Some, None, map, fold, Contains, is_none, refl, sym, ap, subst, inl, inr, arith, ◌∙◌}
 use Rattle.std.proofs.lemmas.Bool.{cond_both}
 use Rattle.amr_labels.specs.Map.{get}
 use Rattle.amr_labels.specs.Set.{contains, is_subset, is_empty}
 use Rattle.amr_labels.specs.Labels.{LabelSet}
 use Rattle.amr_time.specs.Time.{Moment}
 use Rattle.amr_config.specs.declared.stated.receiver.Integration.{Integration}
-use Rattle.amr_config.specs.Stated.Config.{Config}
 use Rattle.amr_config.specs.Routing.{integrations_of, repeat_interval_of}
 use Rattle.amr_rules.specs.declared.alert.Alert.{Alert}
 use Rattle.amr_rules.specs.declared.dedup.LogEntry.{LogEntry}
@@ -32,19 +28,16 @@ use Rattle.amr_engine.specs.Neutral.{Accepts}
 use Rattle.amr_engine.specs.Told.{LogIsNotified, AllAreNotified, after_moves}
 use Rattle.amr_engine.proofs.MovesLaws.{do_within-Does}
 use Rattle.amr_engine.proofs.Told.{move_holds, between_is_notified}
-use Rattle.amr_engine.proofs.PlacedLists.{same_or_apart, get-inserted, get-insert_apart}
+use Rattle.amr_engine.proofs.PlacedLists.{get-inserted, same_or_apart, get-insert_apart}
 use Rattle.amr_engine.proofs.MovesKeep.{fold_holds, drop_holds, notify_holds}
 use Rattle.amr_engine.proofs.Listed.{none_listed, first_or_rest, listed_filter, listed_map, in_set, in_superset, listed_in_set}
+use Rattle.amr_config.specs.Stated.Config.{Config}
 
 -- the log has an entry of the key with the alert among those that fire
 abbrev HasLogged : LogKey → LabelSet → State → Type 0
 HasLogged key labels s = (entry : LogEntry) × (get s.log key ≡ Some entry) × (contains entry.firing labels ≡ true)
 
 -- ---- the dedup check
-
-all_known : (all ended late : Bool) → (not all || ended || late) ≡ false → all ≡ true
-all_known true ended late e = refl
-all_known false ended late e = absurd (cc)
 
 some_fire : (ms : Members) (labels : LabelSet) → contains (labels_of ms) labels ≡ true → is_empty (labels_of ms) ≡ false
 some_fire [] labels fires = absurd (none_listed labels (listed_in_set [] labels fires))
@@ -65,12 +58,9 @@ module _ (at : Moment) (group : RouteLabels) (ms : Members) (labels : LabelSet) 
       → needs_update o firing resolved integration.send_resolved at (repeat_interval_of s.config group.route) ≡ false → HasLogged (key_at s integration) labels s
   unfolding needs_update
   was_logged s integration None is e = absurd (cc (ap not (some_fire (firing_of at ms) labels fires), e))
-  was_logged s integration (Some entry) is e = (
-    entry,
-    is,
-    in_superset (map (λ member. member.0) (firing_of at ms)) entry.firing labels (all_known (is_subset firing entry.firing) _ _ e)
-        (listed_in_set (map (λ member. member.0) (firing_of at ms)) labels fires),
-  )
+  was_logged s integration (Some entry) is e =
+      let all : is_subset firing entry.firing ≡ true = grind (arith, e) in
+      (entry, is, in_superset (map (λ member. member.0) (firing_of at ms)) entry.firing labels all (listed_in_set (map (λ member. member.0) (firing_of at ms)) labels fires))
 
   abbrev written : LogEntry
   written = record { time = at; firing = firing; resolved = resolved }

@@ -1,9 +1,6 @@
 -- What an event does doesn't depend on the notifications before it.
-use Rattle.std.specs.Prelude.{◌≡◌, ℕ, Bool, true, false, List, [], ◌∷◌, ◌++◌, Option, Some, None, Result, Ok, Err, length, nat_lt, if◌then◌else◌}
+use Rattle.std.proofs.Common.{[], ◌≡◌, ℕ, Bool, List, ◌∷◌, ◌++◌, Option, Some, None, Result, Ok, Err, fold, drop_at, refl, sym, ap, ◌∙◌, append_assoc, append-nil, arith}
 use Rattle.std.specs.Option.{option_map, option_map_or}
-use Rattle.std.specs.List.{fold}
-use Rattle.std.proofs.Common.{refl, sym, ap, ◌∙◌, append_assoc, append-nil, arith}
-use Rattle.std.proofs.lemmas.List.{drop_at}
 use Rattle.amr_config.specs.Routing.{integrations_of, chosen_routes}
 use Rattle.amr_labels.specs.Labels.{LabelSet}
 use Rattle.amr_labels.specs.Map.{entries, empty}
@@ -11,9 +8,8 @@ use Rattle.amr_time.specs.Time.{Moment}
 use Rattle.amr_config.specs.declared.stated.receiver.Integration.{Integration}
 use Rattle.amr_config.specs.Stated.Config.{Config}
 use Rattle.amr_rules.specs.declared.alert.Alert.{Alert}
-use Rattle.amr_rules.specs.Silences.{after_post, after_expiry}
 use Rattle.amr_events.specs.Posts.Reasons.{Reason}
-use Rattle.amr_events.specs.Actions.Events.{Event, Act, is_label}
+use Rattle.amr_events.specs.Actions.Events.{Event, Act}
 use Rattle.amr_engine.specs.declared.state.due.Kind.{Kind}
 use Rattle.amr_engine.specs.declared.state.due.Kind.TheVariants.{AlertRemoval, GroupRemoval, GroupFlush}
 use Rattle.amr_engine.specs.declared.state.notification.LogKey.{LogKey}
@@ -27,11 +23,7 @@ use Rattle.amr_engine.specs.Flush.{Members, notify_if_due, notify_receiver, reco
 use Rattle.amr_engine.specs.Runs as run
 use Rattle.amr_engine.specs.Moves.{move, move_of_kind, advance}
 use Rattle.amr_engine.proofs.RunsLaws.{run_holds, run_within-complete}
-use Rattle.amr_engine.specs.Events.{put, put_all, valid_alerts, with_config, with_silences, on_ok, after_act, at_moment, finish, judge, act_within, do_within, do_event, after_event, Outcome, skipped_of, outcome_from, outcome_of, without_notifications, move_limit}
-
-on_ok-twice : {A B C : Type 0} (f : B → C) (g : A → B) (r : Result A Reason) → on_ok f (on_ok g r) ≡ on_ok (λ x. f (g x)) r
-on_ok-twice f g (Ok x) = refl
-on_ok-twice f g (Err e) = refl
+use Rattle.amr_engine.specs.Events.{put, put_all, with_config, on_ok, after_act, at_moment, finish, judge, act_within, do_within, do_event, after_event, skipped_of, outcome_from, outcome_of, without_notifications, move_limit}
 
 -- Moves read neither the clock nor the notifications.
 module _ (clock : Moment → Moment) (earlier : List Notification) where
@@ -43,10 +35,6 @@ module _ (clock : Moment → Moment) (earlier : List Notification) where
   fold_beside f same [] s = refl
   fold_beside f same (x ∷ xs) s = ap (λ (y : State). fold f y xs) (same s x) ∙ fold_beside f same xs (f s x)
 
-  chosen_beside : (b : Bool) (x y z : State) → x ≡ beside y → (if b then x else beside z) ≡ beside (if b then y else z)
-  chosen_beside true x y z e = e
-  chosen_beside false x y z e = refl
-
   -- ---- a flush
 
   recorded_beside : (at : Moment) (group : RouteLabels) (key : LogKey) (send_resolved : Bool) (ms : Members) (s : State)
@@ -55,17 +43,14 @@ module _ (clock : Moment → Moment) (earlier : List Notification) where
 
   notify_beside : (at : Moment) (group : RouteLabels) (ms : Members) (s : State) (i : Integration) → notify_if_due at group ms (beside s) i ≡ beside (notify_if_due at group ms s i)
   unfolding notify_if_due
-  notify_beside at group ms s i =
-      let key : LogKey = log_key_of s.config group i in
-      chosen_beside _ (record_notification at group key i.send_resolved ms (beside s)) (record_notification at group key i.send_resolved ms s) s (recorded_beside at group key i.send_resolved ms s)
+  notify_beside at group ms s i = grind (arith, recorded_beside at group (log_key_of s.config group i) i.send_resolved ms s)
 
   notify_receiver_beside : (at : Moment) (group : RouteLabels) (ms : Members) (s : State) → notify_receiver at group ms (beside s) ≡ beside (notify_receiver at group ms s)
   notify_receiver_beside at group [] s = refl
   notify_receiver_beside at group (m ∷ ms) s = fold_beside (notify_if_due at group (m ∷ ms)) (notify_beside at group (m ∷ ms)) (integrations_of s.config group.route) s
 
   mark_beside : (at : Moment) (group : RouteLabels) (ms : Members) (s : State) → mark_if_empty at group ms (beside s) ≡ beside (mark_if_empty at group ms s)
-  mark_beside at group [] s = refl
-  mark_beside at group (m ∷ ms) s = refl
+  mark_beside at group ms s = grind arith
 
   drop_beside : (at : Moment) (group : RouteLabels) (ms : Members) (s : State) → drop_resolved at group ms (beside s) ≡ beside (drop_resolved at group ms s)
   unfolding drop_resolved
@@ -108,8 +93,7 @@ module _ (earlier : List Notification) where
   after_moves r = (r.0, after r.1)
 
   after_step_after : (d : Due) (o : Option (List Due × State)) → option_map (run.after_step (next_due 0) move d) (option_map after_moves o) ≡ option_map after_moves (option_map (run.after_step (next_due 0) move d) o)
-  after_step_after d None = refl
-  after_step_after d (Some r) = refl
+  after_step_after d o = grind arith
 
   advance_after : (limit : ℕ) (at : Moment) (s : State) → advance limit at (after s) ≡ option_map after_moves (advance limit at s)
   advance_after limit at s =
@@ -135,58 +119,30 @@ module _ (earlier : List Notification) where
   put_after s alert = inserted_after _ _
 
   put_all_after : (s : State) (alerts : List (LabelSet × Alert)) → put_all (after s) alerts ≡ on_ok after (put_all s alerts)
-  put_all_after s [] = refl
-  put_all_after s (alert ∷ alerts) = ap (λ (x : State). Ok x) (fold_beside (λ m. m) earlier put put_after (alert ∷ alerts) s)
+  put_all_after s alerts = grind (arith, fold_beside (λ m. m) earlier put put_after alerts s)
 
   with_config_after : (s : State) (config : Config) → with_config (after s) config ≡ after (with_config s config)
   unfolding with_config
   with_config_after s config = fold_beside (λ m. m) earlier insert_into_groups inserted_after (entries s.alerts) (record s { config = config; placements = empty; timers = empty })
 
-  reloaded_after : (s : State) (config : Result Config Reason) → on_ok (with_config (after s)) config ≡ on_ok after (on_ok (with_config s) config)
-  reloaded_after s (Ok config) = ap (λ (x : State). Ok x) (with_config_after s config)
-  reloaded_after s (Err e) = refl
-
   act_after : (s : State) (act : Act) → after_act (after s) act ≡ on_ok after (after_act s act)
   unfolding after_act
-  act_after s (Act.Post posted) = put_all_after s (valid_alerts s posted)
-  act_after s (Act.Silence posted) = sym (on_ok-twice after (with_silences s) (after_post s.moment posted s.silences))
-  act_after s (Act.Expire id) = sym (on_ok-twice after (with_silences s) (after_expiry s.moment id s.silences))
-  act_after s (Act.Reload config) = reloaded_after s config
-  act_after s Act.Tick = refl
-  act_after s (Act.Label text) = refl
+  act_after s act = grind (arith, put_all_after s, with_config_after s)
 
   -- ---- the event
 
   finish_after : (event : Event) (o : Option (List Due × State)) → finish event (option_map after_moves o) ≡ on_ok after_moves (finish event o)
-  finish_after event None = refl
-  finish_after event (Some r) =
-      ap (on_ok (λ end. (r.0, end))) (act_after (at_moment event.at r.1) event.act)
-      ∙ on_ok-twice (λ end. (r.0, end)) after (after_act (at_moment event.at r.1) event.act)
-      ∙ sym (on_ok-twice after_moves (λ end. (r.0, end)) (after_act (at_moment event.at r.1) event.act))
+  finish_after event o = grind (arith, λ (r : List Due × State). act_after (at_moment event.at r.1) event.act)
 
   judge_after : (limit : ℕ) (s : State) (event : Event) (r : Result State Reason) → judge limit (after s) event (on_ok after r) ≡ on_ok after_moves (judge limit s event r)
-  judge_after limit s event (Err e) = refl
-  judge_after limit s event (Ok x) = ap (finish event) (advance_after limit event.at s) ∙ finish_after event (advance limit event.at s)
-
-  refused_or : (b : Bool) (e : Reason) (r : Result (List Due × State) Reason) → (if b then Err e else on_ok after_moves r) ≡ on_ok after_moves (if b then Err e else r)
-  refused_or true e r = refl
-  refused_or false e r = refl
+  judge_after limit s event r = grind (arith, advance_after limit event.at s, finish_after event (advance limit event.at s))
 
   act_within_after : (limit : ℕ) (s : State) (event : Event) → act_within limit (after s) event ≡ on_ok after_moves (act_within limit s event)
-  act_within_after limit s event =
-      ap (λ (r : Result (List Due × State) Reason). if nat_lt event.at s.moment then Err 20 else r)
-      (ap (judge limit (after s) event) (act_after (at_moment event.at s) event.act) ∙ judge_after limit s event (after_act (at_moment event.at s) event.act))
-      ∙ refused_or (nat_lt event.at s.moment) 20 (judge limit s event (after_act (at_moment event.at s) event.act))
-
-  same_or : (b : Bool) (s : State) (r : Result (List Due × State) Reason) → (if b then Ok ([], after s) else on_ok after_moves r) ≡ on_ok after_moves (if b then Ok ([], s) else r)
-  same_or true s r = refl
-  same_or false s r = refl
+  act_within_after limit s event = grind (arith, act_after (at_moment event.at s) event.act, judge_after limit s event)
 
   do_within_after : (limit : ℕ) (s : State) (event : Event) → do_within limit (after s) event ≡ on_ok after_moves (do_within limit s event)
   unfolding do_within
-  do_within_after limit s event =
-      ap (λ (r : Result (List Due × State) Reason). if is_label event.act then Ok ([], after s) else r) (act_within_after limit s event)
-      ∙ same_or (is_label event.act) s (act_within limit s event)
+  do_within_after limit s event = grind (arith, act_within_after limit s event)
 
 -- ---- an event after which the notifications before it are dropped
 
@@ -197,13 +153,10 @@ done_whole : (s : State) (event : Event) → do_event s event ≡ on_ok (after_m
 done_whole s event = ap (λ (x : State). do_event x event) (sym (whole s)) ∙ do_within_after s.notes move_limit (without_notifications s) event
 
 skipped_same : (s : State) (act : Act) → skipped_of (without_notifications s) act ≡ skipped_of s act
-skipped_same s (Act.Post posted) = refl
-skipped_same s act = refl
+skipped_same s act = grind arith
 
 outcome_same : (s : State) (event : Event) (r : Result (List Due × State) Reason) → outcome_from (without_notifications s) event r ≡ outcome_from s event (on_ok (after_moves s.notes) r)
-outcome_same s event (Err e) = refl
-outcome_same s event (Ok done) =
-    λ i. Outcome.Accepted (length done.0) (sym (drop_at s.notes done.1.notes (length s.notes) refl) i) (skipped_same (at_moment event.at s) event.act i)
+outcome_same s event r = grind (arith, skipped_same (at_moment event.at s) event.act, drop_at s.notes)
 
 -- what an event does can be seen without the notifications before it
 pub outcome_without : (s : State) (event : Event) → outcome_of (without_notifications s) event ≡ outcome_of s event
@@ -212,8 +165,7 @@ outcome_without s event = outcome_same s event (do_event (without_notifications 
 
 after_same : (s : State) (r : Result (List Due × State) Reason)
     → without_notifications (elim r [ Ok done ↦ done.1 | Err reason ↦ without_notifications s ]) ≡ without_notifications (elim (on_ok (after_moves s.notes) r) [ Ok done ↦ done.1 | Err reason ↦ s ])
-after_same s (Err e) = refl
-after_same s (Ok done) = refl
+after_same s r = grind arith
 
 -- and leads to the same state, apart from these notifications
 pub after_without : (s : State) (event : Event) → without_notifications (after_event (without_notifications s) event) ≡ without_notifications (after_event s event)

@@ -1,21 +1,16 @@
 -- What the table of silences caches of label sets: nothing at first, then more, and less after
 -- each change of a silence.
-use Rattle.std.proofs.Common.{◌≡◌, ◌&&◌, ◌≤◌, ◌<◌, ◌+◌, ℕ, Bool, true, false, cond, List, [], ◌∷◌, ◌++◌, length, get_or, map, Bor, Option, Some, None, arith, refl, sym, ap, subst, ◌∙◌}
-use Rattle.std.specs.Prelude.{◌==◌, IfSome}
+use Rattle.std.proofs.Common.{◌==◌, IfSome, Equal, filter, filter_map, Ordering, [], ◌≡◌, ◌&&◌, ◌≤◌, ◌<◌, ◌+◌, ℕ, Bool, true, false, cond, List, ◌∷◌, ◌++◌, length, get_or, map, Bor, Option, Some, None, arith, refl, sym, ap, subst, ◌∙◌, length-append}
 use Rattle.std.proofs.lemmas.Bool.Decides.{nat_tests}
 use Rattle.std.proofs.lemmas.List.{get_or-map, length-map, map-append}
-use Rattle.std.proofs.Common.{length-append}
 use Rattle.std.proofs.Math.ListN.{get_or-append}
 use Rattle.std.proofs.Math.Seq.{get_or-append_seam}
-use Rattle.std.specs.declared.cmp.Ordering.TheVariants.{Equal}
-use Rattle.std.specs.List.{filter, filter_map}
 use Rattle.std.specs.Slice.{IsItemAt}
 use Rattle.std.proofs.lemmas.List.Elements.{All-nil, All-weaker, filter_agree}
 use Rattle.std.specs.Ordering.{is_eq, eq_by_cmp, nat_cmp}
-use Rattle.std.specs.declared.cmp.Ordering.{Ordering}
 use Rattle.std.specs.Cmp.{nat_cmp_total, tied_itself}
 use Rattle.std.specs.FinMap.{nat_cmp-IsAntisymmetric}
-use Rattle.std.proofs.lemmas.Bool.{true≢false, eqb-true, cond-false, false_from_ne_true}
+use Rattle.std.proofs.lemmas.Bool.{true≢false, cond-false, false_from_ne_true}
 use Rattle.std.proofs.Math.Bool.{and_comm}
 use Rattle.std.proofs.lemmas.Map.Views.{tells_apart}
 use Rattle.amr_labels.specs.Map.{entries, empty, from_sorted, entries-from_sorted, same_entries_map, get, set, retain_keys, entries-retain_keys, get-set, get-retain_keys, same_map}
@@ -32,27 +27,18 @@ use Rattle.amr_engine.specs.declared.indexes.cached_periods.CachedPeriods.{Cache
 use Rattle.amr_engine.specs.declared.indexes.silence_change.SilenceChange.{SilenceChange}
 use Rattle.amr_engine.specs.Indexes.CachedSilences.{periods_picked, PicksNone, change_of, changed_ids, AreNoted, IsCached, AreCached, SameOthers}
 
-not_last : (i n : ℕ) → (i == n) ≡ false → i < n + 1 → i < n
-not_last i n apart lt = grind (arith, nat_tests)
-
 -- ---- two tests, one after the other
 
 pub filter_both : {X : Type 0} (f g : X → Bool) (xs : List X) → filter f (filter g xs) ≡ filter (λ x. g x && f x) xs
 filter_both f g [] = refl
-filter_both f g (x ∷ xs) = elim (g x) as (λ b. filter f (cond b (x ∷ filter g xs) (filter g xs)) ≡ cond (b && f x) (x ∷ filter (λ x. g x && f x) xs) (filter (λ x. g x && f x) xs)) [
-  | true ↦ ap (λ l. cond (f x) (x ∷ l) l) (filter_both f g xs)
-  | false ↦ filter_both f g xs
-]
+filter_both f g (x ∷ xs) = grind (arith, filter_both f g xs)
 
 pub filters_alike : {X : Type 0} (f g h k : X → Bool) → ((x : X) → (g x && f x) ≡ (k x && h x)) → (xs : List X) → filter f (filter g xs) ≡ filter h (filter k xs)
 filters_alike f g h k same xs = filter_both f g xs ∙ filter_agree (λ x. g x && f x) (λ x. k x && h x) same xs ∙ sym (filter_both h k xs)
 
 filter_mapped : {X Y : Type 0} (keep : Y → Bool) (h : X → Y) (xs : List X) → filter keep (map h xs) ≡ map h (filter (λ x. keep (h x)) xs)
 filter_mapped keep h [] = refl
-filter_mapped keep h (x ∷ xs) = elim (keep (h x)) as (λ b. cond b (h x ∷ filter keep (map h xs)) (filter keep (map h xs)) ≡ map h (cond b (x ∷ filter (λ x. keep (h x)) xs) (filter (λ x. keep (h x)) xs))) [
-  | true ↦ ap (λ l. h x ∷ l) (filter_mapped keep h xs)
-  | false ↦ filter_mapped keep h xs
-]
+filter_mapped keep h (x ∷ xs) = grind (arith, filter_mapped keep h xs)
 
 -- filtering before and after a map
 pub filters_swap : {X Y : Type 0} (may : X → Bool) (keep : Y → Bool) (h : X → Y) (es : List X) → filter keep (map h (filter may es)) ≡ map h (filter may (filter (λ e. keep (h e)) es))
@@ -66,8 +52,7 @@ picked_periods test from labels silences =
     ∙ ap (λ (es : List (ℕ × Silence)). map period_of (filter (λ stored. may_silence from labels stored.1) es)) (sym (entries-retain_keys silences test))
 
 same_kept : (b : Bool) (v w : Option Silence) → (b ≡ true → v ≡ w) → cond b v None ≡ cond b w None
-same_kept true v w h = h refl
-same_kept false v w h = refl
+same_kept b v w h = grind arith
 
 -- the silences that a test picks are the same if it doesn't pick the one that changed
 same_picked : (test : ℕ → Bool) (from : Moment) (labels : LabelSet) (id : ℕ) (old changed : Silences) → SameOthers id old changed → test id ≡ false
@@ -89,17 +74,12 @@ set_own : (id : ℕ) (old : Silences) (silence : Option Silence) → get (set ol
 set_own id old silence = get-set nat_cmp_total old id silence id ∙ ap (λ (o : Ordering). cond (is_eq o) silence (get old id)) (tied_itself nat_cmp_total id)
 
 noted_id : (id : ℕ) (silence : Option Silence) → (change_of id silence).id ≡ id
-noted_id id None = refl
-noted_id id (Some silence) = refl
+noted_id id silence = grind arith
 
 -- what is noted of a silence that is set is so
 pub noted_right : (change : SilenceChange) (id : ℕ) (old changed : Silences) (silence : Option Silence) → change ≡ change_of id silence → changed ≡ set old id silence
     → SameOthers change.id old changed × (change ≡ change_of change.id (get changed change.id))
-noted_right change id old changed silence is set_to =
-    let own : change.id ≡ id = ap (λ (c : SilenceChange). c.id) is ∙ noted_id id silence in (
-      subst (λ (n : ℕ). SameOthers n old changed) (sym own) (subst (λ (m : Silences). SameOthers id old m) (sym set_to) (set_others id old silence)),
-      subst (λ (n : ℕ). change ≡ change_of n (get changed n)) (sym own) (is ∙ ap (change_of id) (sym (ap (λ (m : Silences). get m id) set_to ∙ set_own id old silence))),
-    )
+noted_right change id old changed silence is set_to = grind (arith, noted_id id silence, set_others id old silence, set_own id old silence)
 
 -- what is cached of silences stays cached, but for the one that changed
 one_less : (old changed : Silences) (changes : List ℕ) (found : CachedPeriods) (id : ℕ) → IsCached old changes found → SameOthers id old changed → IsCached changed (changes ++ id ∷ []) found
@@ -115,8 +95,7 @@ one_less old changed changes found id was same =
     }
 
 still_at : (old changed : Silences) (changes : List ℕ) (id : ℕ) → SameOthers id old changed → (place : Option CachedPeriods) → IfSome place (IsCached old changes) → IfSome place (IsCached changed (changes ++ id ∷ []))
-still_at old changed changes id same None was = tt
-still_at old changed changes id same (Some found) was = one_less old changed changes found id was same
+still_at old changed changes id same place was = grind (arith, λ (found : CachedPeriods). one_less old changed changes found id)
 
 one_more_id : (changes : List SilenceChange) (change : SilenceChange) → changed_ids (changes ++ change ∷ []) ≡ changed_ids changes ++ change.id ∷ []
 one_more_id changes change = map-append (λ (c : SilenceChange). c.id) changes (change ∷ [])
@@ -137,11 +116,9 @@ noted_more old changed changes change same own was =
     record {
       latest = λ i one test lt is picks none.
           elim (i == length changes) as (λ b. (i == length changes) ≡ b → one ≡ change_of one.id (get changed one.id)) [
-            | true ↦ λ last.
-                let at_end : one ≡ change = sym is ∙ ap (λ (n : ℕ). get_or (changes ++ change ∷ []) n one) (eqb-true i (length changes) last) ∙ get_or-append_seam changes change [] one in
-                subst (λ (c : SilenceChange). c ≡ change_of c.id (get changed c.id)) (sym at_end) own
+            | true ↦ λ last. grind (arith, nat_tests, last, get_or-append_seam changes change [] one)
             | false ↦ λ apart.
-                let before : i < length changes = not_last i (length changes) apart (omega arith) in
+                let before : i < length changes = grind (arith, nat_tests, apart, lt) in
                 let there : get_or changes i one ≡ one = sym (get_or-append changes (change ∷ []) one i before) ∙ is in
                 let ids : changed_ids (changes ++ change ∷ []) ≡ changed_ids changes ++ change.id ∷ [] = one_more_id changes change in
                 let count : length (changed_ids changes) ≡ length changes = length-map changes (λ (c : SilenceChange). c.id) in

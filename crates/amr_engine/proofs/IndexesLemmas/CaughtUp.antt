@@ -1,24 +1,21 @@
 -- What is cached of a label set after it has taken in that a silence changed.
-use Rattle.std.proofs.Common.{◌≡◌, ◌≤◌, ◌<◌, ◌+◌, ◌-◌, zero, suc, drop, ℕ, Bool, true, false, not, ◌&&◌, ◌||◌, cond, T, List, [], ◌∷◌, ◌++◌, length, get_or, map, Option, Some, None, nat_le, nat_lt, arith, refl, sym, ap, subst, ◌∙◌}
-use Rattle.std.specs.Prelude.{◌==◌, bit_or, if◌then◌else◌, option_map, IfSome}
-use Rattle.std.specs.declared.cmp.Ordering.{Ordering}
-use Rattle.std.specs.declared.cmp.Ordering.TheVariants.{Less, Equal, Greater}
+use Rattle.std.proofs.Common.{if◌then◌else◌, option_map, IfSome, Ordering, Less, [], ◌≡◌, ◌≤◌, ◌<◌, ◌+◌, ◌-◌, zero, suc, drop, ℕ, Bool, true, false, not, ◌&&◌, cond, T, List, ◌∷◌, ◌++◌, length, get_or, map, Option, Some, None, nat_le, nat_lt, arith, refl, sym, ap, subst, ◌∙◌}
 use Rattle.std.specs.List.{filter, prefix_len, cons_option}
 use Rattle.std.specs.Ordering.{is_eq, is_lt, is_gt, nat_cmp, eq_by_cmp}
-use Rattle.std.specs.Cmp.{nat_cmp_total, tied_itself}
+use Rattle.std.specs.Cmp.{nat_cmp_total}
 use Rattle.std.specs.FinMap.{find, is_sorted, nat_cmp-IsAntisymmetric}
 use Rattle.std.specs.FinMap.Entries.{below_all}
 use Rattle.std.proofs.lemmas.Bool.Decides.{nat_tests}
 use Rattle.std.proofs.lemmas.List.{length-map, map-append, length-drop, get_or-drop, get_or_default}
 use Rattle.std.proofs.lemmas.List.Sums.{prefix_len-le-length, prefix_len_passes}
 use Rattle.std.proofs.lemmas.List.Elements.{filter-append, filter_agree}
-use Rattle.std.proofs.Math.Bool.{and_comm, and-false, and-true}
-use Rattle.std.proofs.lemmas.Bool.{not-true, eq-eqb, eqb-true}
+use Rattle.std.proofs.Math.Bool.{and_comm}
+use Rattle.std.proofs.lemmas.Bool.{not-true}
 use Rattle.amr_labels.specs.Map.{entries, get, entries-sorted, get-entries}
 use Rattle.amr_labels.specs.Labels.{LabelSet}
 use Rattle.amr_labels.proofs.Sorted.{both, first, second, less}
 use Rattle.amr_labels.specs.Matcher.Matchers.{all_hold}
-use Rattle.amr_labels.specs.Matcher.ValueBits.{value_bits, required_bits}
+use Rattle.amr_labels.specs.Matcher.ValueBits.{value_bits}
 use Rattle.amr_labels.proofs.MatcherLemmas.ValueBits.{matching_marked}
 use Rattle.amr_time.specs.Time.{Moment}
 use Rattle.amr_rules.specs.declared.silence.Silence.{Silence}
@@ -27,9 +24,11 @@ use Rattle.amr_rules.specs.Silences.{Silences}
 use Rattle.amr_rules.specs.SilencePeriods.{may_silence, period_of, silence_periods}
 use Rattle.amr_engine.specs.declared.indexes.cached_periods.CachedPeriods.{CachedPeriods}
 use Rattle.amr_engine.specs.declared.indexes.silence_change.SilenceChange.{SilenceChange}
-use Rattle.amr_engine.specs.Indexes.CachedSilences.{lists, periods_picked, PicksNone, is_below, is_above, ends_after, without_silence, with_period, with_silence_noted, period_from, change_of, may_concern, is_idle, next_concern, passed_by, changed_ids, AreNoted, IsCached}
+use Rattle.amr_engine.specs.Indexes.CachedSilences.{lists, periods_picked, PicksNone, is_below, is_above, ends_after, without_silence, with_period, with_silence_noted, period_from, change_of, may_concern, is_idle, passed_by, changed_ids, AreNoted, IsCached}
 use Rattle.amr_engine.proofs.IndexesLemmas.CachedSilences.{filter_both, filters_alike, filters_swap, id_at}
 use Rattle.amr_engine.proofs.Listed.{none_left}
+use Rattle.std.proofs.lemmas.Map.Views.{tells_apart}
+use Rattle.std.proofs.lemmas.Cmp.{eq_by_cmp_equiv}
 
 -- ---- the periods that a test picks, when one silence has another period
 
@@ -45,9 +44,7 @@ above_apart : (id x : ℕ) → (is_lt (nat_cmp id x) && not (is_eq (nat_cmp id x
 above_apart id x = grind (arith, nat_tests)
 
 turned : (s t n : Bool) → (s && n) ≡ s → (s && t) ≡ ((t && n) && s)
-turned true true n e = sym (and-true n ∙ e)
-turned true false n e = refl
-turned false t n e = sym (and-false (t && n))
+turned s t n e = grind arith
 
 picked_aside : (test : ℕ → Bool) (id : ℕ) (aside : SilencePeriod → Bool) → ((p : SilencePeriod) → (aside p && not (eq_by_cmp nat_cmp id p.id)) ≡ aside p)
     → (periods : List SilencePeriod) → periods_picked test (filter aside periods) ≡ filter aside (periods_picked (but_one test id) periods)
@@ -98,38 +95,26 @@ module _ (id : ℕ) where
   all_after [] h = (refl, refl, refl)
   all_after (e ∷ es) h =
       let up = less (nat_cmp id e.0) (first _ _ h) in
-      let rest = all_after es (second _ _ h) in (
-        ap (λ (o : Ordering). cond (is_eq o) (Some e.1) (find nat_cmp id es)) up ∙ rest.0,
-        ap (λ (o : Ordering). cond (is_gt o) (e ∷ filter is_before es) (filter is_before es)) up ∙ rest.1,
-        (λ i. cond (is_lt (up i)) (e ∷ rest.2 i) (rest.2 i)),
-      )
+      let rest = all_after es (second _ _ h) in
+      grind (arith, up, rest)
 
   -- those before it, itself, and those after it
   split : (es : List (ℕ × Silence)) → T (is_sorted nat_cmp es) → es ≡ filter is_before es ++ cons_option (option_map (λ s. (id, s)) (find nat_cmp id es)) (filter is_after es)
   split [] h = refl
   split (e ∷ es) h =
-      elim (nat_cmp id e.0) as (λ o. nat_cmp id e.0 ≡ o → e ∷ es ≡ cond (is_gt o) (e ∷ filter is_before es) (filter is_before es)
-      ++ cons_option (option_map (λ s. (id, s)) (cond (is_eq o) (Some e.1) (find nat_cmp id es))) (cond (is_lt o) (e ∷ filter is_after es) (filter is_after es))) [
-        | Less ↦ λ is. let up = all_after es (after_less e.0 is es (first _ _ h)) in λ i. sym up.1 i ++ cons_option (option_map (λ s. (id, s)) (sym up.0 i)) (e ∷ sym up.2 i)
-        | Equal ↦ λ is.
-            let same = nat_cmp-IsAntisymmetric id e.0 is in
-            let up = all_after es (subst (λ (n : ℕ). T (below_all nat_cmp n es)) (sym same) (first _ _ h)) in
-            λ i. sym up.1 i ++ (sym same i, e.1) ∷ sym up.2 i
-        | Greater ↦ λ _. ap (λ l. e ∷ l) (split es (second _ _ h))
-      ] refl
+      let below : T (below_all nat_cmp e.0 es) = first _ _ h in
+      let rest = split es (second _ _ h) in
+      grind (arith, rest, all_after es, λ (is : nat_cmp id e.0 ≡ Less). after_less e.0 is es below, nat_cmp-IsAntisymmetric id e.0)
 
 module _ (from : Moment) (labels : LabelSet) (id : ℕ) where
   abbrev of_all : List (ℕ × Silence) → List SilencePeriod
   of_all es = map period_of (filter (λ stored. may_silence from labels stored.1) es)
 
   own_id : (found : Option Silence) → IfSome (period_from from labels id found) (λ p. p.id ≡ id)
-  own_id None = tt
-  own_id (Some s) = elim (may_silence from labels s) as (λ b. IfSome (cond b (Some (period_of (id, s))) None) (λ p. p.id ≡ id)) [ true ↦ refl | false ↦ tt ]
+  own_id found = grind arith
 
   of_one : (found : Option Silence) (es : List (ℕ × Silence)) → of_all (cons_option (option_map (λ s. (id, s)) found) es) ≡ cons_option (period_from from labels id found) (of_all es)
-  of_one None es = refl
-  of_one (Some s) es = elim (may_silence from labels s) as (λ b. map period_of (cond b ((id, s) ∷ filter (λ stored. may_silence from labels stored.1) es) (filter (λ stored. may_silence from labels stored.1) es))
-      ≡ cons_option (cond b (Some (period_of (id, s))) None) (of_all es)) [ true ↦ refl | false ↦ refl ]
+  of_one found es = grind arith
 
   aside : (keep : SilencePeriod → Bool) (side : ℕ × Silence → Bool) → ((e : ℕ × Silence) → side e ≡ keep (period_of e)) → (es : List (ℕ × Silence)) → of_all (filter side es) ≡ filter keep (of_all es)
   aside keep side same es = ap of_all (filter_agree side (λ e. keep (period_of e)) same es) ∙ sym (filters_swap (λ (stored : ℕ × Silence). may_silence from labels stored.1) keep period_of es)
@@ -151,19 +136,12 @@ module _ (from : Moment) (labels : LabelSet) (id : ℕ) where
 noted_alike : (test : ℕ → Bool) (id : ℕ) (q : Option SilencePeriod) (a b : List SilencePeriod) → IfSome q (λ p. p.id ≡ id)
     → periods_picked (but_one test id) a ≡ periods_picked (but_one test id) b → periods_picked test (with_silence_noted id q a) ≡ periods_picked test (with_silence_noted id q b)
 noted_alike test id None a b same e = picked_without test id a ∙ e ∙ sym (picked_without test id b)
-noted_alike test id (Some p) a b same e =
-    let there : periods_picked (but_one test p.id) a ≡ periods_picked (but_one test p.id) b = subst (λ (n : ℕ). periods_picked (but_one test n) a ≡ periods_picked (but_one test n) b) (sym same) e in
-    picked_with test p a ∙ ap (among test p) there ∙ sym (picked_with test p b)
+noted_alike test id (Some p) a b same e = grind (arith, picked_with test p a, picked_with test p b)
 
 -- a test that picks no silence that changed later picks but for this one none that changed
 later_picks : (changes : List ℕ) (version id : ℕ) (test : ℕ → Bool) → id ≡ get_or changes version 0 → PicksNone test changes (version + 1) → PicksNone (but_one test id) changes version
 later_picks changes version id test is_id none = λ i le lt.
-    elim (version == i) as (λ b. (version == i) ≡ b → but_one test id (get_or changes i 0) ≡ false) [
-      | true ↦ λ same.
-          let own : id ≡ get_or changes i 0 = is_id ∙ ap (λ (n : ℕ). get_or changes n 0) (eqb-true version i same) in
-          ap (λ (n : ℕ). but_one test id n) (sym own) ∙ ap (λ (o : Ordering). test id && not (is_eq o)) (tied_itself nat_cmp_total id) ∙ and-false (test id)
-      | false ↦ λ apart. ap (λ (b : Bool). b && not (eq_by_cmp nat_cmp id (get_or changes i 0))) (none i (let later : version + 1 ≤ i = grind (arith, nat_tests, le, apart) in later) lt)
-    ] refl
+    grind (arith, nat_tests, none i, (eq_by_cmp_equiv nat_cmp_total).refl id)
 
 -- the next change of a silence is taken in
 taken_in : (silences : Silences) (changes : List ℕ) (found : CachedPeriods) (id : ℕ) (after : CachedPeriods) → IsCached silences changes found → found.version < length changes
@@ -184,28 +162,16 @@ taken_in silences changes found id after cached more is_id is =
 -- ---- a change of a silence that can't mute the labels
 
 not_both : (from ends : ℕ) (hold marked : Bool) → (hold ≡ true → marked ≡ true) → (marked && nat_lt from ends) ≡ false → (not (nat_le ends from) && hold) ≡ false
-not_both from ends false marked h e = and-false (not (nat_le ends from))
-not_both from ends true marked h e = let over : nat_lt from ends ≡ false = ap (λ (b : Bool). b && nat_lt from ends) (sym (h refl)) ∙ e in grind (arith, nat_tests)
+not_both from ends hold marked h e = grind (arith, nat_tests)
 
 -- it has no period that isn't over
 no_period : (from : Moment) (labels : LabelSet) (bits id : ℕ) (found : Option Silence) → bits ≡ value_bits labels → may_concern from bits (change_of id found) ≡ false
     → period_from from labels id found ≡ None
 no_period from labels bits id None marked passed = refl
-no_period from labels bits id (Some silence) marked passed =
-    let asked : all_hold silence.matchers labels ≡ true → (bit_or bits (required_bits silence.matchers) == bits) ≡ true = λ all.
-    eq-eqb _ _ (ap (λ (n : ℕ). bit_or n (required_bits silence.matchers)) marked ∙ matching_marked labels silence.matchers all ∙ sym marked) in
-    ap (λ (b : Bool). cond b (Some (period_of (id, silence))) None)
-    (not_both from silence.ends_at (all_hold silence.matchers labels) (bit_or bits (required_bits silence.matchers) == bits) asked passed)
+no_period from labels bits id (Some silence) marked passed = grind (arith, nat_tests, matching_marked labels silence.matchers)
 
 but_none : (test : ℕ → Bool) (id : ℕ) (periods : List SilencePeriod) → test id ≡ false → periods_picked (but_one test id) periods ≡ periods_picked test periods
-but_none test id periods unpicked = filter_agree (λ (p : SilencePeriod). but_one test id p.id) (λ (p : SilencePeriod). test p.id) (λ p.
-    elim (nat_cmp id p.id) as (λ o. nat_cmp id p.id ≡ o → (test p.id && not (is_eq o)) ≡ test p.id) [
-      | Less ↦ λ is. and-true (test p.id)
-      | Equal ↦ λ is.
-          let other : test p.id ≡ false = ap test (sym (nat_cmp-IsAntisymmetric id p.id is)) ∙ unpicked in
-          and-false (test p.id) ∙ sym other
-      | Greater ↦ λ is. and-true (test p.id)
-    ] refl) periods
+but_none test id periods unpicked = filter_agree (λ (p : SilencePeriod). but_one test id p.id) (λ (p : SilencePeriod). test p.id) (λ p. grind (arith, tells_apart nat_cmp-IsAntisymmetric id p.id)) periods
 
 -- its period is left out, whether it changed again later or not
 passed_over : (silences : Silences) (changes : List SilenceChange) (found : CachedPeriods) (change : SilenceChange) (after : CachedPeriods) → AreNoted silences changes
@@ -237,9 +203,7 @@ passed_over silences changes found change after noted_so cached more is_change p
 -- where there are no periods, all changes before the next that may concern the labels are passed over
 passed_some : (silences : Silences) (changes : List SilenceChange) (found : CachedPeriods) (n : ℕ) → AreNoted silences changes → IsCached silences (changed_ids changes) found → found.periods ≡ []
     → n ≤ prefix_len (is_idle found.from found.bits) (drop found.version changes) → IsCached silences (changed_ids changes) (record found { version = found.version + n })
-passed_some silences changes found zero noted_so cached none le =
-    let same : found.version ≡ found.version + 0 = omega arith in
-    subst (λ (version : ℕ). IsCached silences (changed_ids changes) (record found { version = version })) same cached
+passed_some silences changes found zero noted_so cached none le = grind (arith, cached)
 passed_some silences changes found (suc n) noted_so cached none le =
     let idle : SilenceChange → Bool = is_idle found.from found.bits in
     let left : List SilenceChange = drop found.version changes in
@@ -256,21 +220,13 @@ passed_some silences changes found (suc n) noted_so cached none le =
     (passed_some silences changes found n noted_so cached none (omega arith)) more is (not-true (may_concern found.from found.bits change) passes) (λ i. record found { version = step i; periods = kept i })
 
 pub passed_on : (changes : List SilenceChange) (found : CachedPeriods) → found.version ≤ (passed_by changes found).version
-passed_on changes found =
-    elim (length found.periods == 0) as (λ b. found.version ≤ cond b (next_concern found.from found.bits changes found.version) found.version) [
-      | true ↦ omega arith
-      | false ↦ omega arith
-    ]
+passed_on changes found = grind arith
 
 pub all_passed : (silences : Silences) (changes : List SilenceChange) (found after : CachedPeriods) → AreNoted silences changes → IsCached silences (changed_ids changes) found
     → after ≡ passed_by changes found → IsCached silences (changed_ids changes) after
 all_passed silences changes found after noted_so cached is =
-    subst (λ (k : CachedPeriods). IsCached silences (changed_ids changes) k) (sym is)
-    (elim (length found.periods == 0) as (λ b. (length found.periods == 0) ≡ b
-    → IsCached silences (changed_ids changes) (record found { version = cond b (next_concern found.from found.bits changes found.version) found.version })) [
-      | true ↦ λ empty. passed_some silences changes found (prefix_len (is_idle found.from found.bits) (drop found.version changes)) noted_so cached (none_left found.periods empty) (omega arith)
-      | false ↦ λ some. cached
-    ] refl)
+    let passed = passed_some silences changes found (prefix_len (is_idle found.from found.bits) (drop found.version changes)) noted_so cached in
+    grind (arith, passed, none_left found.periods)
 
 -- the next change is taken in, or passed over
 pub caught_up : (silences : Silences) (changes : List SilenceChange) (found : CachedPeriods) (change : SilenceChange) (after : CachedPeriods) → AreNoted silences changes
@@ -283,18 +239,13 @@ pub caught_up : (silences : Silences) (changes : List SilenceChange) (found : Ca
 caught_up silences changes found change after noted_so cached more is_change is =
     let count : length (changed_ids changes) ≡ length changes = length-map changes (λ (c : SilenceChange). c.id) in
     let within : found.version < length (changed_ids changes) = omega arith in
-    let taken : List SilencePeriod = with_silence_noted change.id (period_from found.from found.labels change.id (get silences change.id)) found.periods in
-    elim (may_concern found.from found.bits change) as (λ b. may_concern found.from found.bits change ≡ b
-    → after ≡ record found { version = found.version + 1; periods = cond b taken (without_silence change.id found.periods) } → IsCached silences (changed_ids changes) after) [
-      | true ↦ λ may is. taken_in silences (changed_ids changes) found change.id after cached within (sym (id_at changes found.version change more is_change)) is
-      | false ↦ λ passed is. passed_over silences changes found change after noted_so cached more is_change passed is
-    ] refl is
+    let noted = taken_in silences (changed_ids changes) found change.id after cached within (sym (id_at changes found.version change more is_change)) in
+    grind (arith, noted, passed_over silences changes found change after noted_so cached more is_change)
 
 -- ---- what has ended is left out
 
 ended_left_out : (ends at from : ℕ) (hold : Bool) → from ≤ at → (nat_lt at ends && (not (nat_le ends from) && hold)) ≡ (not (nat_le ends at) && hold)
-ended_left_out ends at from true le = grind (arith, nat_tests)
-ended_left_out ends at from false le = grind (arith, nat_tests)
+ended_left_out ends at from hold le = grind (arith, nat_tests)
 
 later_periods : (at from : Moment) (labels : LabelSet) (silences : Silences) → from ≤ at → filter (ends_after at) (silence_periods from labels silences) ≡ silence_periods at labels silences
 later_periods at from labels silences le =
@@ -320,8 +271,4 @@ left_out silences changes found after at cached le is =
 
 pub not_listed : (id : ℕ) (periods : List SilencePeriod) → lists periods id ≡ false → without_silence id periods ≡ periods
 not_listed id [] none = refl
-not_listed id (p ∷ ps) none =
-    elim (eq_by_cmp nat_cmp id p.id) as (λ b. (b || lists ps id) ≡ false → cond (not b) (p ∷ without_silence id ps) (without_silence id ps) ≡ p ∷ ps) [
-      | true ↦ λ e. absurd (cc e)
-      | false ↦ λ e. ap (λ l. p ∷ l) (not_listed id ps e)
-    ] none
+not_listed id (p ∷ ps) none = grind (arith, not_listed id ps)

@@ -1,7 +1,5 @@
 -- What the sides of inhibition rules list, and how they take in label sets.
-use Rattle.std.proofs.Common.{◌≡◌, ℕ, ◌+◌, ◌<◌, ◌≤◌, Bool, true, false, cond, ◌||◌, ◌&&◌, T, List, [], ◌∷◌, Option, Some, None, map, length, take, refl, sym, ap, ◌∙◌, IsTrue, is_some, arith}
-use Rattle.std.specs.Prelude.{◌==◌, bit_or, Result, Ok, Err, OnOk, OnErr, option_map, unwrap_or}
-use Rattle.std.proofs.Math.Bool.{or-false, or_self, and-true, and-false}
+use Rattle.std.proofs.Common.{◌==◌, bit_or, Result, Ok, Err, OnOk, OnErr, option_map, unwrap_or, [], ◌≡◌, ℕ, ◌+◌, ◌<◌, ◌≤◌, Bool, true, false, cond, ◌||◌, ◌&&◌, T, List, ◌∷◌, Option, Some, None, map, length, take, refl, sym, ap, ◌∙◌, IsTrue, is_some, arith}
 use Rattle.std.proofs.Math.ListN.{get_or}
 use Rattle.std.specs.List.{cons_option, filter_map}
 use Rattle.std.specs.Ordering.{eq_by_cmp, is_lt}
@@ -12,7 +10,6 @@ use Rattle.std.proofs.lemmas.Bool.Decides.{nat_tests}
 use Rattle.std.proofs.lemmas.List.{take_all, nil_from_length, get_or-map}
 use Rattle.std.proofs.lemmas.List.Folds.{list_any_more}
 use Rattle.std.proofs.lemmas.Map.Views.{tells_apart}
-use Rattle.amr_engine.proofs.StateLemmas.Undoing.{twice}
 use Rattle.amr_labels.proofs.Sorted.{both, first, second}
 use Rattle.amr_labels.specs.Map.{get, set, insert, empty, entries, from_sorted, if_sorted, get-empty, get-insert, get-set, get-entries, entries-sorted}
 use Rattle.amr_labels.specs.Set.{Set, contains, items}
@@ -31,23 +28,15 @@ use Rattle.amr_engine.specs.Indexes.RuleSources.{ByValues, bits_of, is_in, is_un
 
 -- ---- a label set without the bits that matchers ask for doesn't match them
 
-lacking : (bits required : ℕ) → bit_or bits required ≡ bits → (bit_or bits required == bits) ≡ false → ⊥
-lacking bits required same lacks = grind (arith, nat_tests)
-
 pub unmatched : (arrived : List LabelSet) (bits : List ℕ) (n required : ℕ) (labels : LabelSet) (matchers : List Matcher) → bits ≡ bits_of arrived → n < length arrived → labels ≡ get_or arrived n labels
     → required ≡ required_bits matchers → (bit_or (get_or bits n 0) required == get_or bits n 0) ≡ false → all_hold matchers labels ≡ false
 unmatched arrived bits n required labels matchers is lt at asked lacks =
-    let own : get_or bits n 0 ≡ value_bits labels = ap (λ bs. get_or bs n 0) is ∙ get_or-map value_bits arrived n labels 0 lt ∙ ap value_bits (sym at) in
-    elim (all_hold matchers labels) as (λ b. all_hold matchers labels ≡ b → b ≡ false) [
-      | true ↦ λ all. absurd (lacking (get_or bits n 0) required ((λ i. bit_or (own i) (asked i)) ∙ matching_marked labels matchers all ∙ sym own) lacks)
-      | false ↦ λ _. refl
-    ] refl
+    grind (arith, nat_tests, get_or-map value_bits arrived n labels 0 lt, matching_marked labels matchers)
 
 -- ---- a label set is listed under values
 
 some_or : {A : Type 0} (b : Bool) (a : A) (x : Option A) → is_some (cond b (Some a) x) ≡ (b || is_some x)
-some_or true a x = refl
-some_or false a x = refl
+some_or b a x = grind arith
 
 in_or_empty : (found : Option (Set label_set_cmp)) (other : LabelSet) → contains (unwrap_or found empty) other ≡ is_in found other
 in_or_empty None other = ap is_some (get-empty label_set_cmp other)
@@ -57,10 +46,7 @@ module _ (old gone changed : ByValues) (values : List Text) (listed : Set label_
     (takes : map_of values_cmp gone ≡ set (map_of values_cmp old) values None) (puts : map_of values_cmp changed ≡ set (map_of values_cmp gone) values (Some listed)) where
   replaced : (under : List Text) → get (map_of values_cmp changed) under ≡ cond (eq_by_cmp values_cmp under values) (Some listed) (get (map_of values_cmp old) under)
   replaced under =
-      ap (λ m. get m under) puts ∙ get-set values_cmp_total (map_of values_cmp gone) values (Some listed) under
-      ∙ ap (λ m. cond (eq_by_cmp values_cmp under values) (Some listed) (get m under)) takes
-      ∙ ap (cond (eq_by_cmp values_cmp under values) (Some listed)) (get-set values_cmp_total (map_of values_cmp old) values None under)
-      ∙ twice (eq_by_cmp values_cmp under values) (Some listed) None (get (map_of values_cmp old) under)
+      grind (arith, get-set values_cmp_total (map_of values_cmp gone) values (Some listed) under, get-set values_cmp_total (map_of values_cmp old) values None under)
 
   module _ (was : Set label_set_cmp) (were : was ≡ unwrap_or (get (map_of values_cmp old) values) empty) where
     was_under : (under : List Text) (other : LabelSet) → eq_by_cmp values_cmp under values ≡ true → contains was other ≡ is_under old under other
@@ -70,15 +56,12 @@ module _ (old gone changed : ByValues) (values : List Text) (listed : Set label_
 
     one_more : (labels : LabelSet) → listed ≡ insert was labels tt → (under : List Text) (other : LabelSet) (same : Bool) → eq_by_cmp values_cmp under values ≡ same
         → is_in (cond same (Some listed) (get (map_of values_cmp old) under)) other ≡ ((same && eq_by_cmp label_set_cmp other labels) || is_under old under other)
-    one_more labels grown under other true same =
-        ap (λ m. contains m other) grown ∙ ap is_some (get-insert label_set_cmp_total was labels tt other)
-        ∙ some_or (eq_by_cmp label_set_cmp other labels) tt (get was other) ∙ ap (λ b. eq_by_cmp label_set_cmp other labels || b) (was_under under other same)
-    one_more labels grown under other false same = refl
+    one_more labels grown under other same is =
+        grind (arith, get-insert label_set_cmp_total was labels tt other, was_under under other)
 
     no_more : listed ≡ was → (under : List Text) (other : LabelSet) (same : Bool) → eq_by_cmp values_cmp under values ≡ same
         → is_in (cond same (Some listed) (get (map_of values_cmp old) under)) other ≡ is_under old under other
-    no_more kept under other true same = ap (λ m. contains m other) kept ∙ was_under under other same
-    no_more kept under other false same = refl
+    no_more kept under other same is = grind (arith, was_under under other)
 
     -- the set under the values takes in a label set, or it stays as it was
     pub listed_or_same : {A E : Type 0} (r : Result A E) (labels : LabelSet) → OnOk r (listed ≡ insert was labels tt) → OnErr r (listed ≡ was) → OnOk r (IsListedToo values labels old changed) × OnErr r (ListsSame old changed)
@@ -88,9 +71,7 @@ module _ (old gone changed : ByValues) (values : List Text) (listed : Set label_
 -- ---- a label set is taken in
 
 put_is : (m v h same s : Bool) → (same ≡ true → s ≡ (m && v)) → ((m && (v && same)) || (h && s)) ≡ ((h || same) && s)
-put_is m v h false s is = ap (λ b. (m && b) || (h && s)) (and-false v) ∙ ap (λ b. b || (h && s)) (and-false m) ∙ ap (λ b. b && s) (sym (or-false h))
-put_is m v true true s is = ap (λ b. (m && b) || s) (and-true v) ∙ ap (λ b. b || s) (sym (is refl)) ∙ or_self s
-put_is m v false true s is = or-false _ ∙ ap (λ b. m && b) (and-true v) ∙ sym (is refl)
+put_is m v h same s is = grind arith
 
 -- a side that takes in the next label set lists those of one label set more
 pub side_seen : (arrived : List LabelSet) (old put new : CachedSide) (labels : LabelSet) → ListsSide arrived old → old.covered < length arrived → labels ≡ get_or arrived old.covered labels
@@ -98,13 +79,7 @@ pub side_seen : (arrived : List LabelSet) (old put new : CachedSide) (labels : L
 side_seen arrived old put new labels is lt at puts side side_too covered sources = record {
   within = omega (arith, lt, covered);
   exact = λ values q.
-      ap (λ (l : ByValues). is_under l values q) sources ∙ puts values q
-      ∙ ap (λ b. (all_hold old.side.source labels && (eq_by_cmp values_cmp values (label_values old.side.equal.items labels) && eq_by_cmp label_set_cmp q labels)) || b) (is.exact values q)
-      ∙ put_is (all_hold old.side.source labels) (eq_by_cmp values_cmp values (label_values old.side.equal.items labels)) (has label_set_cmp (take old.covered arrived) q) (eq_by_cmp label_set_cmp q labels) (is_source old.side q values)
-      (λ e. ap (λ x. is_source old.side x values) (tells_apart label_set_cmp-IsAntisymmetric q labels e))
-      ∙ ap (λ x. (has label_set_cmp (take old.covered arrived) q || eq_by_cmp label_set_cmp q x) && is_source old.side q values) at
-      ∙ ap (λ b. b && is_source old.side q values) (sym (list_any_more (eq_by_cmp label_set_cmp q) arrived old.covered labels lt))
-      ∙ (λ i. has label_set_cmp (take (sym covered i) arrived) q && is_source (sym (side_too ∙ side) i) q values);
+      grind (arith, puts values q, is.exact values q, tells_apart label_set_cmp-IsAntisymmetric q labels, list_any_more (eq_by_cmp label_set_cmp q) arrived old.covered labels lt);
 }
 
 -- a side at which nothing changed but that label sets were listed in vain
@@ -163,44 +138,29 @@ module _ (m : Alerts) where
   firsts = map (λ entry. entry.0)
 
   below_got : (x y : LabelSet) (alert : Option Alert) (rest : List (LabelSet × Alert)) → T (is_lt (label_set_cmp x y)) → T (below_all label_set_cmp x rest) → T (below_all label_set_cmp x (cons_option (option_map (λ a. (y, a)) alert) rest))
-  below_got x y None rest e h = h
-  below_got x y (Some a) rest e h = both _ _ e h
+  below_got x y alert rest e h = grind (arith, both)
 
   all_below : (x : LabelSet) (l : List (LabelSet × Unit {0})) → T (below_all label_set_cmp x l) → T (below_all label_set_cmp x (stored_of m (firsts l)))
   all_below x [] a = tt
   all_below x (y ∷ l) a = below_got x y.0 (get m y.0) (stored_of m (firsts l)) (first _ _ a) (all_below x l (second _ _ a))
 
   sorted_one : (x : LabelSet) (alert : Option Alert) (rest : List (LabelSet × Alert)) → T (below_all label_set_cmp x rest) → T (is_sorted label_set_cmp rest) → T (is_sorted label_set_cmp (cons_option (option_map (λ a. (x, a)) alert) rest))
-  sorted_one x None rest b s = s
-  sorted_one x (Some a) rest b s = both _ _ b s
+  sorted_one x alert rest b s = grind (arith, both)
 
   sorted_got : (l : List (LabelSet × Unit {0})) → T (is_sorted label_set_cmp l) → T (is_sorted label_set_cmp (stored_of m (firsts l)))
   sorted_got [] s = tt
   sorted_got (x ∷ l) s = sorted_one x.0 (get m x.0) (stored_of m (firsts l)) (all_below x.0 l (first _ _ s)) (sorted_got l (second _ _ s))
 
-  none_either : (b : Bool) (x : Option Alert) → x ≡ None → cond b x None ≡ None
-  none_either true x e = e
-  none_either false x e = refl
-
   find_one : (q x : LabelSet) (alert : Option Alert) (rest : List (LabelSet × Alert)) (same listed : Bool) → get m x ≡ alert → eq_by_cmp label_set_cmp q x ≡ same → find label_set_cmp q rest ≡ cond listed (get m q) None
       → find label_set_cmp q (cons_option (option_map (λ a. (x, a)) alert) rest) ≡ cond (same || listed) (get m q) None
-  find_one q x None rest true listed at e h =
-      let none : get m q ≡ None = ap (get m) (tells_apart label_set_cmp-IsAntisymmetric q x e) ∙ at in
-      h ∙ none_either listed (get m q) none ∙ sym none
-  find_one q x None rest false listed at e h = h
-  find_one q x (Some a) rest true listed at e h =
-      ap (λ b. cond b (Some a) (find label_set_cmp q rest)) e ∙ sym at ∙ ap (get m) (sym (tells_apart label_set_cmp-IsAntisymmetric q x e))
-  find_one q x (Some a) rest false listed at e h = ap (λ b. cond b (Some a) (find label_set_cmp q rest)) e ∙ h
+  find_one q x alert rest same listed at e h = grind (arith, tells_apart label_set_cmp-IsAntisymmetric q x)
 
   find_got : (q : LabelSet) (l : List (LabelSet × Unit {0})) → find label_set_cmp q (stored_of m (firsts l)) ≡ cond (is_some (find label_set_cmp q l)) (get m q) None
   find_got q [] = refl
-  find_got q (x ∷ l) =
-      find_one q x.0 (get m x.0) (stored_of m (firsts l)) (eq_by_cmp label_set_cmp q x.0) (is_some (find label_set_cmp q l)) refl refl (find_got q l)
-      ∙ ap (λ b. cond b (get m q) None) (sym (some_or (eq_by_cmp label_set_cmp q x.0) x.1 (find label_set_cmp q l)))
+  find_got q (x ∷ l) = grind (arith, find_one q x.0 (get m x.0) (stored_of m (firsts l)) (eq_by_cmp label_set_cmp q x.0) (is_some (find label_set_cmp q l)) refl refl (find_got q l))
 
   kept_alike : (arrived test : Bool) (found : Option Alert) → (is_some found ≡ true → arrived ≡ true) → cond (arrived && test) found None ≡ cond test found None
-  kept_alike arrived test None h = none_either (arrived && test) None refl ∙ sym (none_either test None refl)
-  kept_alike arrived test (Some a) h = ap (λ b. cond (b && test) (Some a) None) (h refl)
+  kept_alike arrived test found h = grind arith
 
   abbrev pub members : Option (Set label_set_cmp) → List LabelSet
   members None = []
@@ -211,8 +171,7 @@ module _ (m : Alerts) where
   sorted_members (Some listed) = sorted_got (entries listed) (entries-sorted listed)
 
   find_member : (q : LabelSet) (found : Option (Set label_set_cmp)) → find label_set_cmp q (stored_of m (members found)) ≡ cond (is_in found q) (get m q) None
-  find_member q None = refl
-  find_member q (Some listed) = find_got q (entries listed) ∙ ap (λ x. cond (is_some x) (get m q) None) (sym (get-entries listed q))
+  find_member q found = grind (arith, λ (listed : Set label_set_cmp). find_got q (entries listed), λ (listed : Set label_set_cmp). get-entries listed q)
 
   -- the stored alerts of the listed label sets are the rule's sources
   pub sources_are : (rule : InhibitRule) (target : LabelSet) (arrived : List LabelSet) (found : Option (Set label_set_cmp)) → ListsAgreeing rule target arrived found

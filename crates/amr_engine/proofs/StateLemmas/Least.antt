@@ -1,8 +1,5 @@
 -- The first of several timers.
-use Rattle.std.proofs.Common.{◌≡◌, ◌≤◌, ◌<◌, ◌⊎◌, inl, inr, Bool, true, false, ◌||◌, IsTrue, List, [], ◌∷◌, Option, Some, None, refl, sym, ap, subst, ◌∙◌, arith}
-use Rattle.std.specs.Prelude.{if◌then◌else◌, nat_lt}
-use Rattle.std.specs.declared.cmp.Ordering.{Ordering}
-use Rattle.std.specs.declared.cmp.Ordering.TheVariants.{Less, Equal, Greater}
+use Rattle.std.proofs.Common.{if◌then◌else◌, nat_lt, Ordering, Less, Equal, [], ◌≡◌, ◌≤◌, ◌<◌, ◌⊎◌, inl, inr, Bool, true, false, ◌||◌, IsTrue, List, ◌∷◌, Option, Some, None, refl, sym, ap, subst, ◌∙◌, arith}
 use Rattle.std.specs.Ordering.{nat_cmp, is_eq, is_gt, eq_by_cmp, ordering_reverse, ordering_then}
 use Rattle.std.specs.Cmp.{nat_cmp_is, nat_cmp_total}
 use Rattle.amr_labels.specs.Labels.{label_set_cmp}
@@ -14,16 +11,11 @@ use Rattle.std.proofs.lemmas.Map.Views.{tells_apart}
 use Rattle.amr_tables.specs.Members.{has}
 use Rattle.amr_engine.specs.declared.state.due.Kind.{Kind}
 use Rattle.amr_engine.specs.declared.state.due.Kind.TheVariants.{AlertRemoval, GroupRemoval, GroupFlush}
-use Rattle.amr_engine.specs.State.Dues.{Due, kind_rank, rank_cmp, due_cmp, due_cmp_total, due_cmp-IsAntisymmetric, lesser_due, least_due}
+use Rattle.amr_engine.specs.State.Dues.{Due, kind_rank, due_cmp, due_cmp_total, due_cmp-IsAntisymmetric, lesser_due, least_due}
 use Rattle.amr_engine.specs.State.Timed.{earlier, IsFirstAmong, IsFirstOfKind}
 
 pub not_after : (a b : Due) → is_gt (due_cmp a b) ≡ true → is_gt (due_cmp b a) ≡ false
-not_after a b h = flipped (due_cmp b a) (sym (ap is_gt (due_cmp_total.antisymm a b)) ∙ h)
-  where
-    flipped : (o : Ordering) → is_gt (ordering_reverse o) ≡ true → is_gt o ≡ false
-    flipped Less e = refl
-    flipped Equal e = refl
-    flipped Greater e = absurd (cc)
+not_after a b h = grind (arith, due_cmp_total.antisymm a b)
 
 -- ---- the least of a list
 
@@ -32,8 +24,7 @@ abbrev Any : Kind → Type 0
 Any kind = Unit {0}
 
 pub either : (a b : Bool) (P : Type 0) → (IsTrue a → P) → (IsTrue b → P) → IsTrue (a || b) → P
-either true b P f g h = f refl
-either false b P f g h = g h
+either a b P f g h = grind arith
 
 pub not_both : (b : Bool) (P : Type 0) → b ≡ false → IsTrue b → P
 not_both b P off on = absurd (true≢false (sym on ∙ off))
@@ -62,9 +53,7 @@ least_first (due ∷ rest) = by (least_due rest) (least_first rest)
         ] refl
 
 neither : (v w : Ordering) → v ≡ ordering_reverse w → is_gt v ≡ false → is_gt w ≡ false → v ≡ Equal
-neither v Less e a b = absurd (true≢false (sym (ap is_gt e) ∙ a))
-neither v Equal e a b = e
-neither v Greater e a b = absurd (true≢false b)
+neither v w e a b = grind arith
 
 -- no list has two first timers
 one_first : (dues : List Due) (x y : Option Due) → IsFirstAmong Any dues x → IsFirstAmong Any dues y → x ≡ y
@@ -77,17 +66,13 @@ one_first dues (Some x) (Some y) a b =
 -- ---- the first of several kinds
 
 first_part : (o p : Ordering) → is_gt (ordering_then o p) ≡ false → is_gt o ≡ false
-first_part Less p h = refl
-first_part Equal p h = refl
-first_part Greater p h = h
+first_part o p h = grind arith
 
 pub not_later : (a b : Due) → is_gt (due_cmp a b) ≡ false → a.moment ≤ b.moment
 not_later a b h = le_from_not_gt a.moment b.moment (first_part (nat_cmp a.moment b.moment) _ h)
 
 pub sooner : (a b : Due) → a.moment < b.moment → is_gt (due_cmp a b) ≡ false
-sooner a b lt =
-    let less : Less ≡ nat_cmp a.moment b.moment = nat_cmp_is a.moment b.moment Less lt in
-    ap (λ o. is_gt (ordering_then o (rank_cmp a b))) (sym less)
+sooner a b lt = grind (arith, nat_cmp_is a.moment b.moment Less lt)
 
 -- of one moment and kind, a lesser name is first
 pub alike : (a b : Due) → a.moment ≡ b.moment → a.kind ≡ b.kind → is_gt (ordering_then (nat_cmp a.route b.route) (label_set_cmp a.labels b.labels)) ≡ false → is_gt (due_cmp a b) ≡ false
@@ -98,15 +83,7 @@ alike a b moment kind name =
 
 -- of one moment, an earlier kind is first
 by_kind : (a b : Due) → a.moment ≤ b.moment → kind_rank a.kind < kind_rank b.kind → is_gt (due_cmp a b) ≡ false
-by_kind a b le lt =
-    let less : Less ≡ nat_cmp (kind_rank a.kind) (kind_rank b.kind) = nat_cmp_is (kind_rank a.kind) (kind_rank b.kind) Less lt in
-    elim (nat_lt a.moment b.moment) as (λ t. nat_lt a.moment b.moment ≡ t → is_gt (due_cmp a b) ≡ false) [
-      | true ↦ λ t. sooner a b (grind (arith, nat_tests))
-      | false ↦ λ t.
-          let same : a.moment ≡ b.moment = grind (arith, nat_tests) in
-          let equal : Equal ≡ nat_cmp a.moment b.moment = nat_cmp_is a.moment b.moment Equal same in
-          (λ i. is_gt (ordering_then (sym equal i) (ordering_then (sym less i) (ordering_then (nat_cmp a.route b.route) (label_set_cmp a.labels b.labels)))))
-    ] refl
+by_kind a b le lt = grind (arith, nat_tests, nat_cmp_is (kind_rank a.kind) (kind_rank b.kind) Less lt, sooner a b, nat_cmp_is a.moment b.moment Equal)
 
 module _ (p q : Kind → Type 0) (before : (j k : Kind) → p j → q k → kind_rank j < kind_rank k) (dues : List Due) where
   joined : (x y : Option Due) → IsFirstAmong p dues x → IsFirstAmong q dues y → IsFirstAmong (λ kind. p kind ⊎ q kind) dues (earlier x y)
@@ -131,9 +108,7 @@ abbrev IsOf : Kind → Kind → Type 0
 IsOf kind k = k ≡ kind
 
 kinds : (k : Kind) → IsOf AlertRemoval k ⊎ (IsOf GroupRemoval k ⊎ IsOf GroupFlush k)
-kinds AlertRemoval = inl refl
-kinds GroupRemoval = inr (inl refl)
-kinds GroupFlush = inr (inr refl)
+kinds k = grind arith
 
 removals_first : (j k : Kind) → IsOf GroupRemoval j → IsOf GroupFlush k → kind_rank j < kind_rank k
 removals_first j k e f = omega (arith, ap kind_rank e, ap kind_rank f)

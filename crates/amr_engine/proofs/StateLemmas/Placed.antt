@@ -1,14 +1,10 @@
 -- An alert that is placed on a route: first its copy, then the clock of its group.
-use Rattle.std.specs.Prelude.{◌≡◌, ℕ, List, [], ◌∷◌}
-use Rattle.std.specs.Prelude.{true, false, Option, None, Some, cond, map, option_map, length, slice_get}
-use Rattle.std.specs.declared.cmp.Ordering.{Ordering}
-use Rattle.std.specs.Cmp.{IsTotalOrder, Equal-is}
+use Rattle.std.proofs.Common.{[], ◌≡◌, ℕ, List, ◌∷◌, Option, Some, map, option_map, length, slice_get, Ordering, ap, sym, refl, ◌∙◌, arith}
+use Rattle.std.specs.Cmp.{IsTotalOrder}
 use Rattle.std.specs.FinMap.{IsAntisymmetric}
-use Rattle.std.specs.Ordering.{eq_by_cmp}
-use Rattle.std.proofs.Common.{ap, sym, refl, ◌∙◌}
 use Rattle.std.proofs.lemmas.List.{length-map}
 use Rattle.std.proofs.lemmas.Option.{slice_get-map}
-use Rattle.amr_labels.specs.Map.{Map, get, insert, get-insert, get_tied, same_map}
+use Rattle.amr_labels.specs.Map.{Map, get, insert, get-insert, same_map}
 use Rattle.amr_labels.specs.Labels.{LabelSet}
 use Rattle.amr_config.specs.Stated.Config.{Config}
 use Rattle.amr_config.specs.Routing.{chosen_routes, group_wait_of}
@@ -18,6 +14,7 @@ use Rattle.amr_rules.specs.declared.alert.Alert.{Alert}
 use Rattle.amr_engine.specs.declared.state.notification.GroupTimer.{GroupTimer}
 use Rattle.amr_config.specs.RouteLabels.{on_route}
 use Rattle.amr_engine.specs.State.State.{State, group_key, timer_with, insert_into_group}
+use Rattle.std.proofs.lemmas.Map.Views.{tells_apart}
 
 pub placed : (s copied : State) (labels : LabelSet) (alert copy : Alert) (route : ℕ) (group route_labels : RouteLabels) (timer : GroupTimer)
     → group ≡ group_key s.config (on_route route labels) → route_labels ≡ on_route route labels → copy ≡ alert
@@ -32,11 +29,7 @@ placed s copied labels alert copy route group route_labels timer grouped at same
 
 -- putting the value of a key under that key changes nothing
 pub put_as_it_is : {K X : Type 0} {R : K → K → Ordering} (o : IsTotalOrder R) → IsAntisymmetric R → (m : Map R X) (k : K) (v : X) → get m k ≡ Some v → insert m k v ≡ m
-put_as_it_is {R = R} o same m k v e =
-    same_map o same _ _ (λ q. get-insert o m k v q ∙ elim (eq_by_cmp R q k) as (λ b. eq_by_cmp R q k ≡ b → cond b (Some v) (get m q) ≡ get m q) [
-      | true ↦ λ t. sym e ∙ get_tied o m q k ((Equal-is _).0 t)
-      | false ↦ λ _. refl
-    ] refl)
+put_as_it_is o same m k v e = same_map o same _ _ (λ q. grind (arith, get-insert o m k v q, tells_apart same q k))
 
 -- ---- the groups that take an alert
 
@@ -53,8 +46,7 @@ unfolding groups_of
 count_of_groups config labels = length-map (chosen_routes config labels) (group_at config labels)
 
 made_among : (config : Config) (labels : LabelSet) (route : Option ℕ) (group : RouteLabels) → option_map (group_at config labels) route ≡ Some group → group ≡ group_at config labels group.route
-made_among config labels None group e = cc
-made_among config labels (Some r) group e = let same : group_at config labels r ≡ group = cc in sym same ∙ ap (λ (g : RouteLabels). group_at config labels g.route) same
+made_among config labels route group e = grind arith
 
 pub group_among : (config : Config) (labels : LabelSet) (n : ℕ) (group : RouteLabels) → slice_get (groups_of config labels) n ≡ Some group → group ≡ group_at config labels group.route
 unfolding groups_of

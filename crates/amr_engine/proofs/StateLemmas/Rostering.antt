@@ -1,25 +1,21 @@
 -- The members of groups by number, how a change of one of them goes on, and the members of a group.
-use Rattle.std.proofs.Common.{◌≡◌, ◌≤◌, ◌<◌, ℕ, Bool, true, false, IsTrue, cond, ◌||◌, ◌&&◌, T, List, [], ◌∷◌, Option, Some, None, is_some, map, length, get_or, ◌++◌, ◌+◌, refl, sym, ap, subst, ◌∙◌, arith}
-use Rattle.std.specs.Prelude.{◌==◌, slice_get, option_map, option_and_then, if◌then◌else◌, IsPermutation}
+use Rattle.std.proofs.Common.{◌==◌, slice_get, option_map, option_and_then, IsPermutation, Ordering, Less, Equal, Greater, [], ◌≡◌, ◌≤◌, ◌<◌, ℕ, Bool, true, false, IsTrue, cond, ◌||◌, ◌&&◌, T, List, ◌∷◌, Option, Some, None, is_some, map, length, get_or, ◌++◌, ◌+◌, refl, sym, ap, subst, ◌∙◌, arith}
 use Rattle.std.specs.List.{All, AllByRecursion, IsDistinct, list_any, filter, filter_map, cons_option}
 use Rattle.std.specs.List.Sorted.{IsStrictlySortedBy, IsSortedBy}
-use Rattle.std.specs.declared.cmp.Ordering.{Ordering}
-use Rattle.std.specs.declared.cmp.Ordering.TheVariants.{Less, Equal, Greater}
 use Rattle.std.specs.Ordering.{nat_cmp, eq_by_cmp, is_eq, is_lt, ordering_then}
 use Rattle.std.specs.Cmp.{nat_cmp_total, eq_by_cmp_equiv, tied_itself, both_ways}
 use Rattle.std.specs.FinMap.{find, is_sorted}
 use Rattle.std.specs.FinMap.Entries.{below_all, is_some-find}
-use Rattle.std.proofs.lemmas.Bool.{true≢false, eq-eqb, eqb-true, and_from, or_right, false_from_ne_true, and_parts}
+use Rattle.std.proofs.lemmas.Bool.{true≢false, eq-eqb, eqb-true, or_right, false_from_ne_true, and_parts}
 use Rattle.std.proofs.lemmas.Bool.Decides.{nat_tests}
-use Rattle.std.proofs.lemmas.List.Elements.{All-nil, All-cons, All-head, All-tail}
+use Rattle.std.proofs.lemmas.List.Elements.{All-nil, All-cons, All-head, All-tail, recursion_from_All}
 use Rattle.std.proofs.lemmas.List.Sorted.{All-permutation, IsPermutation-map, list_any-IsPermutation}
 use Rattle.std.proofs.lemmas.Map.Keys.{IsDistinct-IsPermutation}
-use Rattle.std.proofs.lemmas.Option.{same_Some, slice_get-get_or}
+use Rattle.std.proofs.lemmas.Option.{slice_get-get_or}
 use Rattle.std.proofs.Math.Bool.{and-false}
 use Rattle.std.proofs.lemmas.Map.Views.{tells_apart}
 use Rattle.amr_labels.specs.Labels.{LabelSet, label_set_cmp, label_set_cmp_total, label_set_cmp-IsAntisymmetric}
 use Rattle.amr_labels.specs.Map.{Map, get, set, entries, get-set, get-entries, entries-sorted}
-use Rattle.amr_labels.proofs.Pairs.{own_values}
 use Rattle.amr_labels.proofs.Sorted.{first, second, less}
 use Rattle.amr_config.specs.Stated.Config.{Config}
 use Rattle.amr_rules.specs.declared.alert.Alert.{Alert}
@@ -38,6 +34,7 @@ use Rattle.amr_config.specs.RouteLabels.{on_route, route_labels_cmp, route_label
 use Rattle.amr_engine.specs.State.State.{group_key, members_among}
 use Rattle.amr_engine.specs.State.Rostered.{member_at, IsGrouped}
 use Rattle.amr_engine.proofs.StateLemmas.Scheduling.{not_none, the_value, kept_number}
+use Rattle.amr_engine.proofs.PlacedLists.{get-each}
 
 -- ---- truth values
 
@@ -56,15 +53,6 @@ the_number : {V : Type 0} (t : Numbered RouteLabels V) → IsNumbering route_lab
 the_number t is key h =
     let value = the_value (get (map_of route_labels_cmp t) key) h in
     number_of_value route_labels_cmp_total route_labels_cmp-IsAntisymmetric t is key value.0 value.1
-
--- a key with a number had it, or is the one that got it
-module _ {V : Type 0} (t u : Numbered RouteLabels V) (k : RouteLabels) (n : ℕ) (gets : GetsNumber route_labels_cmp t u k n) (P : RouteLabels → ℕ → Type 0) (own : P k n) (others : (key : RouteLabels) (m : ℕ) → number_of route_labels_cmp t key ≡ Some m → P key m) where
-  by_number : (key : RouteLabels) (m : ℕ) → number_of route_labels_cmp u key ≡ Some m → P key m
-  by_number key m at =
-      elim (eq_by_cmp route_labels_cmp key k) as (λ b. eq_by_cmp route_labels_cmp key k ≡ b → (if b then Some n else number_of route_labels_cmp t key) ≡ Some m → P key m) [
-        | true ↦ λ same number. subst (λ (x : RouteLabels × ℕ). P x.0 x.1) (λ i. (sym (tied_key k key same) i, same_Some n m number i)) own
-        | false ↦ λ _ number. others key m number
-      ] refl (sym (gets key) ∙ at)
 
 -- ---- the invariant
 
@@ -94,7 +82,10 @@ module _ (config : Config) (a : Numbered RouteLabels Alert) (gs : Numbered Route
     numbering = numbering;
     homes = ap length homes ∙ is.homes ∙ sym next;
     home = λ other x there. is.home other x (before other x there) ∙ ap (λ l. slice_get l x) (sym homes);
-    present = λ other x there. present x ∙ by_key other x (before other x there) ∙ ap is_some (sym (value other));
+    present = λ other x there.
+        let one = one_key route_labels_cmp_total route_labels_cmp-IsAntisymmetric a is.numbering key other n at in
+        let itself = (eq_by_cmp_equiv route_labels_cmp_total).refl key in
+        grind (arith, nat_tests, present x, value other, is.present other x (before other x there), one, itself, tied_key key other);
     named = λ x marked. by_number_now x (x == n) refl (sym (present x) ∙ marked);
     groups = omega (arith, is.groups, rooms);
   }
@@ -109,27 +100,14 @@ module _ (config : Config) (a : Numbered RouteLabels Alert) (gs : Numbered Route
       by_number_now x true e marked = (key, ap (find route_labels_cmp key) numbers ∙ at ∙ ap (λ n. Some n) (sym (eqb-true x n e)))
       by_number_now x false e marked = let by = is.named x marked in (by.0, ap (find route_labels_cmp by.0) numbers ∙ by.1)
 
-      by_key : (other : RouteLabels) (x : ℕ) → number_of route_labels_cmp a other ≡ Some x → cond (x == n) (is_some w) (is_marked m.present x) ≡ is_some (cond (eq_by_cmp route_labels_cmp other key) w (get (map_of route_labels_cmp a) other))
-      by_key other x there =
-          ap (λ t. cond t (is_some w) (is_marked m.present x)) tells
-          ∙ elim (eq_by_cmp route_labels_cmp other key) as (λ y. cond y (is_some w) (is_marked m.present x) ≡ is_some (cond y w (get (map_of route_labels_cmp a) other))) [ true ↦ refl | false ↦ is.present other x there ]
-        where
-          tells : (x == n) ≡ eq_by_cmp route_labels_cmp other key
-          tells = both_ways _ _
-              (λ e. ap (λ (r : RouteLabels). eq_by_cmp route_labels_cmp r key) (sym (one_key route_labels_cmp_total route_labels_cmp-IsAntisymmetric a is.numbering key other n at (there ∙ ap (λ n. Some n) (eqb-true x n e)))) ∙ ap is_eq (tied_itself route_labels_cmp_total key))
-              (λ same. eq-eqb x n (same_Some x n (sym there ∙ ap (number_of route_labels_cmp a) (tied_key key other same) ∙ at)))
-
   -- a place for a member is made, of a group
   pub grouped_placed : (b : Numbered RouteLabels Alert) (k : Grouped) (key : RouteLabels) (g : ℕ) → IsNumbering route_labels_cmp b → number_of route_labels_cmp a key ≡ None → GetsNumber route_labels_cmp a b key (next_number a) → next_number b ≡ next_number a + 1 → map_of route_labels_cmp b ≡ map_of route_labels_cmp a
       → number_of route_labels_cmp gs (group_key config key) ≡ Some g → k.homes ≡ m.homes ++ g ∷ [] → k.present ≡ m.present ++ false ∷ [] → length m.rooms ≤ length k.rooms → IsGrouped config b gs k
   grouped_placed b k key g numbering new gets next shows in_g homes present rooms = record {
     numbering = numbering;
     homes = ap length homes ∙ length-push m.homes g ∙ omega (arith, is.homes, next);
-    home = by_number a b key (next_number a) gets (λ other n. number_of route_labels_cmp gs (group_key config other) ≡ slice_get k.homes n)
-        (in_g ∙ sym (home_now (next_number a) ∙ ap (λ b. cond b (Some g) (slice_get m.homes (next_number a))) (let last = is.homes in let here : (next_number a == length m.homes) ≡ true = grind (arith, nat_tests, last) in here)))
-        (λ other n at. is.home other n at ∙ sym (home_now n ∙ ap (λ b. cond b (Some g) (slice_get m.homes n)) (let less = home_within other n at in let here : (n == length m.homes) ≡ false = grind (arith, nat_tests, less) in here)));
-    present = λ other n at. present_now n ∙ by_number a b key (next_number a) gets (λ other n. is_marked m.present n ≡ is_some (get (map_of route_labels_cmp a) other)) (nobody ∙ sym no_value) is.present other n at
-        ∙ ap (λ (s : Map route_labels_cmp Alert). is_some (get s other)) (sym shows);
+    home = λ other n at. grind (arith, nat_tests, gets other, tied_key key other, home_now n, is.home other n, home_within other n, is.homes);
+    present = λ other n at. grind (arith, gets other, tied_key key other, present_now n, is.present other n, nobody, no_value);
     named = λ n marked. let by = is.named n (sym (present_now n) ∙ marked) in (by.0, kept_number route_labels_cmp-IsAntisymmetric a b key (next_number a) new gets by.0 n by.1);
     groups = omega (arith, is.groups, rooms);
   }
@@ -194,16 +172,10 @@ abbrev with_alert : Map route_labels_cmp Alert → ℕ → LabelSet → Option (
 with_alert placements route labels = option_map (λ alert. (labels, alert)) (get placements (on_route route labels))
 
 skips : (a b c : Bool) → (a ≡ true → b ≡ false) → (b && c) ≡ (b && (a || c))
-skips true b c f = ap (λ x. x && c) (f refl) ∙ sym (ap (λ x. x && true) (f refl))
-skips false b c f = refl
+skips a b c f = grind arith
 
 keeps : (a b c : Bool) → (a ≡ true → b ≡ true) → (a || (b && c)) ≡ (b && (a || c))
-keeps true b c f = sym (ap (λ x. x && true) (f refl))
-keeps false b c f = refl
-
-got : (m : Map route_labels_cmp Alert) (es : List (RouteLabels × Alert)) → AllByRecursion (λ e. find route_labels_cmp e.0 (entries m) ≡ Some e.1) es → AllByRecursion (λ e. get m e.0 ≡ Some e.1) es
-got m [] h = tt
-got m (e ∷ es) h = (get-entries m e.0 ∙ h.0, got m es h.1)
+keeps a b c f = grind arith
 
 module _ (config : Config) (group : RouteLabels) where
   abbrev is_in : RouteLabels → Bool
@@ -247,9 +219,7 @@ module _ (config : Config) (group : RouteLabels) where
       ] refl
     where
       by_labels : is_in f.0 ≡ true → route_labels_cmp k f.0 ≡ Less → label_set_cmp k.labels f.0.labels ≡ Less
-      by_labels in_f less =
-          sym (ap (λ o. ordering_then o (label_set_cmp k.labels f.0.labels)) (ap (λ (n : ℕ). nat_cmp n f.0.route) (ap (λ (r : RouteLabels). r.route) (tied_key group (group_key config k) in_k ∙ sym (tied_key group (group_key config f.0) in_f))) ∙ tied_itself nat_cmp_total f.0.route))
-          ∙ less
+      by_labels in_f less = grind (arith, tied_key group (group_key config k) in_k, tied_key group (group_key config f.0) in_f, tied_itself nat_cmp_total f.0.route)
 
   sorted_among : (es : List (RouteLabels × Alert)) → T (is_sorted route_labels_cmp es) → IsStrictlySortedBy label_set_cmp (labels_of_members (among es))
   unfolding IsStrictlySortedBy
@@ -263,16 +233,10 @@ module _ (config : Config) (group : RouteLabels) where
   -- each label set of the group has its alert
   looked_up : (m : Map route_labels_cmp Alert) (es : List (RouteLabels × Alert)) → AllByRecursion (λ e. get m e.0 ≡ Some e.1) es → filter_map (with_alert m group.route) (labels_of_members (among es)) ≡ among es
   looked_up m [] h = refl
-  looked_up m (e ∷ es) h =
-      elim (is_in e.0) as (λ b. is_in e.0 ≡ b → filter_map (with_alert m group.route) (labels_of_members (map (λ placement. (placement.0.labels, placement.1)) (cond b (e ∷ filter (λ placement. is_in placement.0) es) (filter (λ placement. is_in placement.0) es))))
-      ≡ map (λ placement. (placement.0.labels, placement.1)) (cond b (e ∷ filter (λ placement. is_in placement.0) es) (filter (λ placement. is_in placement.0) es))) [
-        | true ↦ λ in_e. ap (λ x. cons_option (option_map (λ alert. (e.0.labels, alert)) x) (filter_map (with_alert m group.route) (labels_of_members (among es)))) (ap (get m) (on_its_route e.0 in_e) ∙ h.0)
-            ∙ ap (λ l. (e.0.labels, e.1) ∷ l) (looked_up m es h.1)
-        | false ↦ λ _. looked_up m es h.1
-      ] refl
+  looked_up m (e ∷ es) h = grind (arith, looked_up m es h.1, on_its_route e.0)
 
   pub members_are : (m : Map route_labels_cmp Alert) → filter_map (with_alert m group.route) (labels_of_members (members_among config m group)) ≡ members_among config m group
-  members_are m = looked_up m (entries m) (got m (entries m) (own_values route_labels_cmp_total (entries m) (entries-sorted m)))
+  members_are m = looked_up m (entries m) (recursion_from_All (λ (e : RouteLabels × Alert). get m e.0 ≡ Some e.1) (entries m) (get-each route_labels_cmp_total route_labels_cmp-IsAntisymmetric m))
 
   -- a list in order of the same label sets lists the members
   listed : (m : Map route_labels_cmp Alert) (ls : List LabelSet) → IsStrictlySortedBy label_set_cmp ls → ((l : LabelSet) → has label_set_cmp ls l ≡ (is_in (on_route group.route l) && is_some (get m (on_route group.route l)))) → ls ≡ labels_of_members (members_among config m group)
@@ -284,19 +248,18 @@ module _ (config : Config) (a : Numbered RouteLabels Alert) (gs : Numbered Route
   -- no member is in a group without a number
   pub no_members : number_of route_labels_cmp gs group ≡ None → [] ≡ members_among config (map_of route_labels_cmp a) group
   unfolding IsStrictlySortedBy
-  no_members none = empty _ (listed config group (map_of route_labels_cmp a) [] tt (λ l. nobody (on_route group.route l) _ _ refl refl))
+  no_members none = empty _ (listed config group (map_of route_labels_cmp a) [] tt (λ l. nobody (on_route group.route l)))
     where
       empty : (ms : List (LabelSet × Alert)) → [] ≡ labels_of_members ms → [] ≡ ms
       empty [] e = refl
       empty (x ∷ ms) e = absurd (cc)
 
-      nobody : (key : RouteLabels) (x y : Bool) → is_in config group key ≡ x → is_some (get (map_of route_labels_cmp a) key) ≡ y → false ≡ (x && y)
-      nobody key true true e h =
-          let by = the_number a is.numbering key h in
+      nobody : (key : RouteLabels) → false ≡ (is_in config group key && is_some (get (map_of route_labels_cmp a) key))
+      nobody key = sym (false_from_ne_true _ (λ h.
+          let parts = and_parts (is_in config group key) (is_some (get (map_of route_labels_cmp a) key)) h in
+          let by = the_number a is.numbering key parts.1 in
           let own = slice_get-get_or m.homes by.0 0 (home_within config a gs m is key by.0 by.1) in
-          not_none _ _ (sym own ∙ sym (is.home key by.0 by.1) ∙ ap (number_of route_labels_cmp gs) (tied_key group (group_key config key) e) ∙ none)
-      nobody key true false e h = refl
-      nobody key false y e h = refl
+          not_none _ _ (sym own ∙ sym (is.home key by.0 by.1) ∙ ap (number_of route_labels_cmp gs) (tied_key group (group_key config key) parts.0) ∙ none)))
 
   module _ (numbering : IsNumbering route_labels_cmp gs) (g : ℕ) (at : number_of route_labels_cmp gs group ≡ Some g) where
     abbrev IsMember : ℕ → Type 0
@@ -361,38 +324,23 @@ module _ (config : Config) (a : Numbered RouteLabels Alert) (gs : Numbered Route
     has_labels : (ns : List ℕ) (all : AllByRecursion IsMember ns) (l : LabelSet) (n : ℕ) → number_of route_labels_cmp a (on_route group.route l) ≡ Some n → IsTrue (list_any (λ x. n == x) ns) → IsTrue (has label_set_cmp (labels_of_members (members_at ns all)) l)
     has_labels [] all l n there h = absurd (true≢false (sym h))
     has_labels (x ∷ ns) all l n there h =
-        elim (n == x) as (λ b. (n == x) ≡ b → IsTrue (b || list_any (λ x. n == x) ns) → IsTrue (has label_set_cmp (labels_of_members (members_at (x ∷ ns) all)) l)) [
-          | true ↦ λ e _.
-              let it = the_member x all.0 in
-              let keys : on_route group.route l ≡ on_route group.route it.labels = one_key route_labels_cmp_total route_labels_cmp-IsAntisymmetric a is.numbering (on_route group.route l) (on_route group.route it.labels) n there (it.number ∙ ap (λ n. Some n) (sym (eqb-true n x e))) in
-              ap (λ (r : RouteLabels). eq_by_cmp label_set_cmp r.labels it.labels || has label_set_cmp (labels_of_members (members_at ns all.1)) l) keys ∙ ap (λ o. is_eq o || has label_set_cmp (labels_of_members (members_at ns all.1)) l) (tied_itself label_set_cmp_total it.labels)
-          | false ↦ λ _ rest. or_right (eq_by_cmp label_set_cmp l (the_member x all.0).labels) _ (has_labels ns all.1 l n there rest)
-        ] refl h
+        let it = the_member x all.0 in
+        let one = one_key route_labels_cmp_total route_labels_cmp-IsAntisymmetric a is.numbering (on_route group.route l) (on_route group.route it.labels) n there in
+        grind (arith, nat_tests, one, it.number, (eq_by_cmp_equiv label_set_cmp_total).refl l, has_labels ns all.1 l n there)
 
     -- a label set of theirs has a number among these
     has_number : (ns : List ℕ) (all : AllByRecursion IsMember ns) (l : LabelSet) → IsTrue (has label_set_cmp (labels_of_members (members_at ns all)) l) → IsTrue (is_in config group (on_route group.route l) && is_some (get (map_of route_labels_cmp a) (on_route group.route l)))
     has_number [] all l h = absurd (true≢false (sym h))
     has_number (x ∷ ns) all l h =
         let it = the_member x all.0 in
-        elim (eq_by_cmp label_set_cmp l it.labels) as (λ b. eq_by_cmp label_set_cmp l it.labels ≡ b → IsTrue (b || has label_set_cmp (labels_of_members (members_at ns all.1)) l) → IsTrue (is_in config group (on_route group.route l) && is_some (get (map_of route_labels_cmp a) (on_route group.route l)))) [
-          | true ↦ λ e _.
-              let same : it.labels ≡ l = sym (tells_apart label_set_cmp-IsAntisymmetric l it.labels e) in
-              subst (λ l. IsTrue (is_in config group (on_route group.route l) && is_some (get (map_of route_labels_cmp a) (on_route group.route l)))) same
-              (and_from _ _ (ap (λ r. eq_by_cmp route_labels_cmp r group) it.grouped ∙ ap is_eq (tied_itself route_labels_cmp_total group)) (ap is_some it.value))
-          | false ↦ λ _ rest. has_number ns all.1 l rest
-        ] refl h
+        grind (arith, tells_apart label_set_cmp-IsAntisymmetric l it.labels, it.value, it.grouped, (eq_by_cmp_equiv route_labels_cmp_total).refl group, has_number ns all.1 l)
 
     apart_from : (x : ℕ) (there : IsMember x) (ns : List ℕ) (all : AllByRecursion IsMember ns) → AllByRecursion (λ y. (x == y) ≡ false) ns → AllByRecursion (λ y. eq_by_cmp label_set_cmp (the_member x there).labels y ≡ false) (labels_of_members (members_at ns all))
     apart_from x there [] all differ = tt
     apart_from x there (y ∷ ns) all differ =
         let own = the_member x there in
-        let it = the_member y all.0 in (
-          false_from_ne_true _ (λ e.
-              let same : own.labels ≡ it.labels = tells_apart label_set_cmp-IsAntisymmetric own.labels it.labels e in
-              let number : x ≡ y = same_Some x y (sym own.number ∙ ap (λ l. number_of route_labels_cmp a (on_route group.route l)) same ∙ it.number) in
-              true≢false (sym (eq-eqb x y number) ∙ differ.0)),
-          apart_from x there ns all.1 differ.1,
-        )
+        let it = the_member y all.0 in
+        (grind (arith, nat_tests, tells_apart label_set_cmp-IsAntisymmetric own.labels it.labels, own.number, it.number, differ.0), apart_from x there ns all.1 differ.1)
 
     -- different numbers have different label sets
     labels_apart : (ns : List ℕ) (all : AllByRecursion IsMember ns) → IsDistinct (λ (a b : ℕ). a == b) ns → IsDistinct (eq_by_cmp label_set_cmp) (labels_of_members (members_at ns all))

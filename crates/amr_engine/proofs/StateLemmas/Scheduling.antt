@@ -1,10 +1,7 @@
 -- The moments of alerts and groups by number, as the tables change, and the first of them.
-use Rattle.std.proofs.Common.{◌≡◌, ◌≢◌, ◌≤◌, ◌<◌, ◌⊎◌, inl, inr, ℕ, true, false, IsTrue, is_some, List, [], Option, Some, None, refl, sym, ap, subst, ◌∙◌, arith}
-use Rattle.std.specs.Prelude.{◌==◌, if◌then◌else◌, slice_set}
+use Rattle.std.proofs.Common.{slice_set, Ordering, Equal, [], ◌≡◌, ◌≢◌, ◌≤◌, ◌<◌, ◌⊎◌, inl, inr, ℕ, true, false, IsTrue, is_some, List, Option, Some, None, refl, sym, ap, subst, ◌∙◌, arith}
 use Rattle.std.specs.Option.{option_cmp}
-use Rattle.std.specs.declared.cmp.Ordering.{Ordering}
-use Rattle.std.specs.declared.cmp.Ordering.TheVariants.{Less, Equal, Greater}
-use Rattle.std.specs.Ordering.{nat_cmp, eq_by_cmp, is_gt, is_eq, ordering_then}
+use Rattle.std.specs.Ordering.{nat_cmp, eq_by_cmp, is_gt, is_eq}
 use Rattle.std.specs.Cmp.{IsTotalOrder, nat_cmp_total, Equal-is}
 use Rattle.std.specs.FinMap.{find, IsAntisymmetric, nat_cmp-IsAntisymmetric}
 use Rattle.std.proofs.lemmas.Bool.{true≢false, and_parts, cases_eq, cond-false, false_from_ne_true}
@@ -13,7 +10,7 @@ use Rattle.std.proofs.lemmas.Cmp.{tied_itself, tied_back}
 use Rattle.std.proofs.lemmas.Map.Views.{tells_apart}
 use Rattle.std.proofs.lemmas.Option.{same_Some}
 use Rattle.amr_labels.specs.Map.{Map, get}
-use Rattle.amr_labels.specs.Labels.{LabelSet, label_set_cmp, label_set_cmp_total, label_set_cmp-IsAntisymmetric}
+use Rattle.amr_labels.specs.Labels.{LabelSet, label_set_cmp_total, label_set_cmp-IsAntisymmetric}
 use Rattle.amr_rules.specs.Muting.{Alerts}
 use Rattle.amr_time.specs.Time.{Moment}
 use Rattle.amr_tables.proofs.Placing.{value_apart}
@@ -84,13 +81,7 @@ module _ {K V : Type 0} {R : K → K → Ordering} (o : IsTotalOrder R) (exact :
       subst (λ ms. IsOrdered (rank_of R u) ms e) (λ i k. sym (each k) i) (ranked t.numbers u.numbers (moments_in moment_of t) e numbers ordered)
     where
       each : (k : ℕ) → changed_back (moments_in moment_of u) n former k ≡ moments_in moment_of t k
-      each k = by (cases_eq k n)
-        where
-          by : (k ≡ n) ⊎ (k ≢ n) → changed_back (moments_in moment_of u) n former k ≡ moments_in moment_of t k
-          by (inl same) =
-              let here : (k == n) ≡ true = grind (arith, nat_tests) in
-              ap (λ b. if b then former else moments_in moment_of u k) here ∙ is ∙ ap (moments_in moment_of t) (sym same)
-          by (inr apart) = apart_from (moments_in moment_of u) n former k apart ∙ ap moment_of (ap (λ l. value_at l k) cells ∙ value_apart t.cells n k value apart)
+      each k = grind (arith, nat_tests, cases_eq k n, apart_from (moments_in moment_of u) n former k, value_apart t.cells n k value)
 
   -- the value of a key is another, and its moment, too
   pub scheduled_set : (t u : Numbered K V) (e f : Earliest) (k : K) (n : ℕ) → number_of R t k ≡ Some n → u.numbers ≡ t.numbers → room f ≡ room e → ((m : ℕ) → IsHeld f m → IsHeld e m ⊎ (m ≡ n))
@@ -112,10 +103,7 @@ module _ {K V : Type 0} {R : K → K → Ordering} (o : IsTotalOrder R) (exact :
       let keeps = kept_number {R = R} exact t u k n new gets in
       record {
         named = λ m h. let key = is.named m h in (key.0, keeps key.0 m key.1);
-        room = λ key m there. elim (eq_by_cmp R key k) as (λ b. (if b then Some n else number_of R t key) ≡ Some m → m < room e) [
-          | true ↦ λ number. let same = same_Some n m number in omega (arith, roomy, same)
-          | false ↦ λ old. is.room key m old
-        ] (sym (gets key) ∙ there);
+        room = λ key m there. grind (arith, gets key, is.room key m);
         ordered = subst (λ ms. IsOrdered (rank_of R u) ms e) (λ i n. moment_of (sym (values n) i)) (ordered_agrees (rank_of R t) (rank_of R u) e (λ a b held_a held_b.
             let key_a = is.named a held_a in
             let key_b = is.named b held_b in
@@ -141,13 +129,9 @@ module _ {K V : Type 0} {R : K → K → Ordering} (o : IsTotalOrder R) (exact :
   -- the number of a key whose value has a moment
   numbered_moment : (t : Numbered K V) → moment_of None ≡ None → IsNumbering R t → (key : K) (x : Moment) → moment_of (get (map_of R t) key) ≡ Some x → (n : ℕ) × ((number_of R t key ≡ Some n) × (moments_in moment_of t n ≡ Some x))
   numbered_moment t none numbering key x at =
-      let value = has_value (get (map_of R t) key) at in
+      let value : (v : V) × (get (map_of R t) key ≡ Some v) = grind (arith, none, at) in
       let number = number_of_value o exact t numbering key value.0 value.1 in
       (number.0, (number.1, ap moment_of (sym (value_at_number o exact t numbering key number.0 number.1)) ∙ at))
-    where
-      has_value : (v : Option V) → moment_of v ≡ Some x → (value : V) × (v ≡ Some value)
-      has_value None e = not_none x _ (sym e ∙ none)
-      has_value (Some v) e = (v, refl)
 
   pub no_moment : (t : Numbered K V) → moment_of None ≡ None → IsNumbering R t → ((n : ℕ) → moments_in moment_of t n ≡ None) → (key : K) (x : Moment) → moment_of (get (map_of R t) key) ≡ Some x → ⊥
   no_moment t none numbering never key x at =
@@ -168,16 +152,8 @@ module _ {K V : Type 0} {R : K → K → Ordering} (o : IsTotalOrder R) (exact :
         ap moment_of (value_at_number o exact t numbering key s.number number) ∙ earliest.0,
         λ other x later.
             let found = numbered_moment t none numbering other x later in
-            elim (earliest.1 found.0 x found.1.1) as (λ _. (s.moment < x) ⊎ ((s.moment ≡ x) × (is_gt (R key other) ≡ false))) [
-              | inl less ↦ inl less
-              | inr tie ↦ inr (tie.0, not_gt (R key other) (λ gt. tie.1 ((λ i. option_cmp R (named i) (key_at_number o exact t numbering other found.0 found.1.0 i)) ∙ gt)))
-            ],
+            grind (arith, earliest.1 found.0 x found.1.1, key_at_number o exact t numbering other found.0 found.1.0),
       )
-    where
-      not_gt : (w : Ordering) → w ≢ Greater → is_gt w ≡ false
-      not_gt Less never = refl
-      not_gt Equal never = refl
-      not_gt Greater never = absurd (never refl)
 
 module _ {K V : Type 0} (R : K → K → Ordering) (t : Numbered K V) where
   pub unplaced : (k : K) → number_of R t k ≡ None → has_place R t k ≡ false
@@ -189,14 +165,12 @@ module _ {K V : Type 0} (R : K → K → Ordering) (t : Numbered K V) where
   has_number k placed none = not_both (is_some (number_of R t k)) ⊥ (ap is_some none) placed
 
 pub group_none : (kind : Kind) → group_moment kind None ≡ None
-group_none AlertRemoval = refl
-group_none kind = refl
+group_none kind = grind arith
 
 -- ---- the first timer of a kind
 
 at_then : (n : ℕ) (at : Option Moment) → IsTrue (is_at n at) → at ≡ Some n
-at_then n None h = absurd (true≢false (sym h))
-at_then n (Some m) h = ap (λ m. Some m) (sym (tells_apart nat_cmp-IsAntisymmetric n m h))
+at_then n at h = grind (arith, tells_apart nat_cmp-IsAntisymmetric n)
 
 at_itself : (n : ℕ) → is_at n (Some n) ≡ true
 at_itself n = ap is_eq (tied_itself nat_cmp_total n)
@@ -217,10 +191,7 @@ module _ (a : Alerts) (c : Map route_labels_cmp GroupTimer) where
           members a c due ∙ ap (is_at moment) first.0 ∙ at_itself moment,
           λ other kind h.
               let is = alert_due other kind h in
-              elim (first.1 other.labels other.moment is.1) as (λ _. is_gt (due_cmp due other) ≡ false) [
-                | inl less ↦ sooner due other less
-                | inr tie ↦ alike due other tie.0 (sym kind) (ap (λ z. is_gt (ordering_then z (label_set_cmp labels other.labels))) (tied_back nat_cmp_total other.route 0 is.0) ∙ tie.1)
-              ],
+              grind (arith, first.1 other.labels other.moment is.1, sooner due other, alike due other, kind, tied_back nat_cmp_total other.route 0 is.0),
         ),
       )
 
@@ -243,11 +214,7 @@ module _ (a : Alerts) (c : Map route_labels_cmp GroupTimer) where
         refl,
         (
           members a c due ∙ of_group kind never moment group.route group.labels ∙ ap (is_at moment) first.0 ∙ at_itself moment,
-          λ other same h.
-              elim (first.1 (on_route other.route other.labels) other.moment (group_due kind never other same h)) as (λ _. is_gt (due_cmp due other) ≡ false) [
-                | inl less ↦ sooner due other less
-                | inr tie ↦ alike due other tie.0 (sym same) tie.1
-              ],
+          λ other same h. grind (arith, first.1 (on_route other.route other.labels) other.moment (group_due kind never other same h), sooner due other, alike due other, same),
         ),
       )
 

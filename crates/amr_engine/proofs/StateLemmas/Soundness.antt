@@ -1,11 +1,6 @@
 -- Records that can be put back.
-use Rattle.std.proofs.Common.{◌≡◌, ◌≤◌, ℕ, List, [], ◌∷◌, ◌++◌, Option, Some, None, IsTrue, refl, subst, sym, ap, is_some, ◌∙◌, length}
-use Rattle.std.specs.Prelude.{IfSome}
-use Rattle.std.specs.List.{flat_map}
-use Rattle.std.proofs.lemmas.List.{append-nil, append_assoc}
+use Rattle.std.proofs.Common.{IfSome, flat_map, append-nil, append_assoc, Ordering, nat_cmp, [], ◌≡◌, ◌≤◌, ℕ, List, ◌∷◌, ◌++◌, Option, Some, IsTrue, refl, subst, sym, ap, is_some, ◌∙◌, length, arith}
 use Rattle.std.proofs.lemmas.Grind.{flat_map-append}
-use Rattle.std.specs.declared.cmp.Ordering.{Ordering}
-use Rattle.std.specs.Ordering.{nat_cmp}
 use Rattle.amr_tables.specs.Numbered.{Numbered, number_of, has_place}
 use Rattle.amr_tables.specs.Records.{Records}
 use Rattle.amr_labels.specs.Labels.{label_set_cmp}
@@ -25,8 +20,7 @@ use Rattle.amr_engine.proofs.StateLemmas.Undoing.{put_back-push, put_back-entere
 
 -- what was found is what there is
 pub found : {A : Type 0} (x o : Option A) → x ≡ o → IfSome o (λ a. x ≡ Some a)
-found x None e = tt
-found x (Some a) e = e
+found x o e = grind arith
 
 -- ---- places
 
@@ -158,25 +152,10 @@ undone_popped a b e state current closed room =
 -- ---- tables that show the same, or have more places
 
 pub same_state : (a b : Tables) → SameValues a b → shown_by b ≡ shown_by a
-same_state a b same = λ i. record {
-  moment = same.moment i;
-  config = same.config i;
-  alerts = same.alerts i;
-  silences = same.silences i;
-  placements = same.placements i;
-  timers = same.timers i;
-  log = same.log i;
-  notes = same.notes i;
-}
+same_state a b same = grind arith
 
 pub more_still : (a b c : Tables) → MorePlaces a b → MorePlaces b c → MorePlaces a c
-more_still a b c one two = record {
-  alerts = λ k h. two.alerts k (one.alerts k h);
-  silences = λ k h. two.silences k (one.silences k h);
-  placements = λ k h. two.placements k (one.placements k h);
-  timers = λ k h. two.timers k (one.timers k h);
-  log = λ k h. two.log k (one.log k h);
-}
+more_still a b c one two = grind arith
 
 -- ---- one change
 
@@ -201,16 +180,13 @@ sound_back t e n late h = tt
 
 -- whether a roster can be put back doesn't depend on the present one
 sound_anyway : (t : Tables) (e : Change) → IsSound (with_roster t e) e → IsSound t e
-sound_anyway t (OfRoster roster) h = h
-sound_anyway t e h = h
+sound_anyway t e h = grind arith
 
 late_changed : (s : State) (e : Change) → IsAllowed e → s.moment ≤ latest_read → (after_change s e).moment ≤ latest_read
-late_changed s (OfMoment moment) h late = h
-late_changed s e h late = late
+late_changed s e h late = grind arith
 
 late_back : (t : Tables) (s : State) (e : Change) → IsSound t e → s.moment ≤ latest_read → (after_change s e).moment ≤ latest_read
-late_back t s (OfMoment moment) h late = h
-late_back t s e h late = late
+late_back t s e h late = grind arith
 
 -- ---- the invariant after one change
 
@@ -221,22 +197,7 @@ kept_roomier a t j kept roomier =
 
 -- a place is made first
 pub placed_first : (a b t : Tables) (i j : Records Change) → SameValues a b → MorePlaces a b → IsRoomier b i t j → IsRoomier a i t j
-placed_first a b t i j same more roomier = record {
-  values = record {
-    moment = roomier.values.moment ∙ same.moment;
-    config = roomier.values.config ∙ same.config;
-    alerts = roomier.values.alerts ∙ same.alerts;
-    silences = roomier.values.silences ∙ same.silences;
-    placements = roomier.values.placements ∙ same.placements;
-    timers = roomier.values.timers ∙ same.timers;
-    log = roomier.values.log ∙ same.log;
-    notes = roomier.values.notes ∙ same.notes;
-  };
-  places = more_still a b t more roomier.places;
-  closed = roomier.closed;
-  current = roomier.current;
-  room = roomier.room;
-}
+placed_first a b t i j same more roomier = grind (arith, more_still a b t more)
 
 -- room is made in the journal and for notifications
 pub kept_reserved : (a b : Inside) → IsKept a → b.journal.closed ≡ a.journal.closed → b.journal.current ≡ a.journal.current → IsKept (record a { tables = record a.tables { notes = b.tables.notes }; journal = b.journal })

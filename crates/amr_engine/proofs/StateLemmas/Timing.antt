@@ -1,22 +1,18 @@
 -- Which timers are pending.
-use Rattle.std.proofs.Common.{◌≡◌, ℕ, Bool, true, false, cond, ◌||◌, ◌&&◌, T, List, [], ◌∷◌, ◌++◌, Option, Some, None, map, refl, sym, ap, ◌∙◌}
-use Rattle.std.specs.Prelude.{◌*◌, option_map}
+use Rattle.std.proofs.Common.{option_map, Ordering, Less, Equal, [], ◌≡◌, ℕ, Bool, true, false, ◌||◌, ◌&&◌, T, List, ◌∷◌, ◌++◌, Option, Some, None, map, refl, sym, ap, ◌∙◌, arith, cond}
 use Rattle.std.specs.List.{filter_map, cons_option}
-use Rattle.std.specs.declared.cmp.Ordering.{Ordering}
-use Rattle.std.specs.declared.cmp.Ordering.TheVariants.{Less, Equal}
 use Rattle.std.specs.Ordering.{nat_cmp, eq_by_cmp, is_eq, ordering_then}
-use Rattle.std.specs.Cmp.{IsTotalOrder, tied_itself, Equal-is, tied_then}
+use Rattle.std.specs.Cmp.{IsTotalOrder, tied_itself, tied_then, Equal-is}
 use Rattle.std.specs.FinMap.{find, is_sorted, IsAntisymmetric}
 use Rattle.std.specs.FinMap.Entries.{below_all}
 use Rattle.std.proofs.lemmas.Bool.{true≢false, and_parts, false_from_ne_true}
 use Rattle.std.proofs.lemmas.List.Folds.{list_any-append}
 use Rattle.std.proofs.Math.Bool.{or-false, and-true, and-false, and_comm}
-use Rattle.std.proofs.lemmas.Map.Views.{tells_apart}
 use Rattle.amr_labels.specs.Labels.{LabelSet, label_set_cmp, label_set_cmp_total, label_set_cmp-IsAntisymmetric}
 use Rattle.amr_labels.specs.Map.{Map, get, entries, get-entries, entries-sorted}
 use Rattle.amr_labels.proofs.Sorted as sorted
 use Rattle.amr_rules.specs.Muting.{Alerts}
-use Rattle.amr_time.specs.Time.{Moment, second, next_multiple_of}
+use Rattle.amr_time.specs.Time.{Moment, second}
 use Rattle.amr_tables.specs.Members.{has}
 use Rattle.amr_engine.specs.declared.state.notification.GroupTimer.{GroupTimer}
 use Rattle.amr_config.specs.declared.route_labels.RouteLabels.{RouteLabels}
@@ -25,6 +21,7 @@ use Rattle.amr_engine.specs.declared.state.due.Kind.TheVariants.{AlertRemoval, G
 use Rattle.amr_config.specs.RouteLabels.{on_route, route_labels_cmp, route_labels_cmp_total, route_labels_cmp-IsAntisymmetric}
 use Rattle.amr_engine.specs.State.Dues.{Due, kind_rank, due_cmp, dues_of, alert_removal_of, group_removal_at, group_removal_of, flush_of}
 use Rattle.amr_engine.specs.State.Timed.{alert_moment, group_moment}
+use Rattle.std.proofs.lemmas.Map.Views.{tells_apart}
 
 -- ---- what is due of a map's entries
 
@@ -42,8 +39,7 @@ tied d None = false
 tied d (Some x) = eq_by_cmp due_cmp d x
 
 has_cons : (d : Due) (o : Option Due) (rest : List Due) → has due_cmp (cons_option o rest) d ≡ (tied d o || has due_cmp rest d)
-has_cons d None rest = refl
-has_cons d (Some x) rest = refl
+has_cons d o rest = grind arith
 
 abbrev due_with : Kind → RouteLabels → Moment → Due
 due_with kind name moment = record { moment = moment; kind = kind; route = name.route; labels = name.labels }
@@ -111,7 +107,7 @@ of_one_kind a c n GroupRemoval route labels = or-false _ ∙ ap (λ o. is_eq o &
 of_one_kind a c n GroupFlush route labels = ap (λ o. is_eq o && is_at n (group_moment GroupFlush (get c (on_route route labels)))) (tied_itself route_labels_cmp_total (on_route route labels))
 
 removal_is : (group : RouteLabels × GroupTimer) → group_removal_of group ≡ option_map (due_with GroupRemoval group.0) (group_removal_at group.1)
-removal_is group = elim group.1.empty_since as (λ since. option_map (λ since. due_with GroupRemoval group.0 (next_multiple_of since (30 * second))) since ≡ option_map (due_with GroupRemoval group.0) (option_map (λ since. next_multiple_of since (30 * second)) since)) [ None ↦ refl | Some since ↦ refl ]
+removal_is group = grind arith
 
 -- a timer is in the list where it is at its moment
 pub members : (a : Alerts) (c : GroupTimers) (d : Due) → has due_cmp (dues_of a c) d ≡ is_due a c d.moment d.kind d.route d.labels

@@ -1,14 +1,12 @@
 -- What an event displaces is put back, entry by entry.
-use Rattle.std.proofs.Common.{◌≡◌, suc, Bool, true, false, List, [], ◌∷◌, ◌++◌, Option, refl, sym, ap, subst, ◌∙◌, length}
+use Rattle.std.proofs.Common.{cond, Ordering, [], ◌≡◌, suc, Bool, true, false, List, ◌∷◌, ◌++◌, Option, refl, sym, ap, ◌∙◌, length, arith}
 use Rattle.std.proofs.Math.Seq.{take-append_seam}
-use Rattle.std.specs.Prelude.{cond}
-use Rattle.std.specs.declared.cmp.Ordering.{Ordering}
 use Rattle.std.specs.Ordering.{eq_by_cmp}
 use Rattle.std.specs.Cmp.{IsTotalOrder, nat_cmp_total}
 use Rattle.std.specs.FinMap.{IsAntisymmetric, nat_cmp-IsAntisymmetric}
 use Rattle.std.proofs.lemmas.Cmp.{eq_by_cmp_equiv}
 use Rattle.std.proofs.lemmas.Map.Views.{tells_apart}
-use Rattle.amr_labels.specs.Map.{Map, get, set, get-set, set-back, same_map}
+use Rattle.amr_labels.specs.Map.{Map, set, get-set, set-back, same_map}
 use Rattle.amr_labels.specs.Labels.{label_set_cmp_total, label_set_cmp-IsAntisymmetric}
 use Rattle.amr_rules.specs.declared.alert.Alert.{Alert}
 use Rattle.amr_rules.specs.declared.dedup.LogEntry.{LogEntry}
@@ -56,36 +54,17 @@ put_back-appended entries s notification = put_back-push entries (OfNotes (lengt
 -- ---- two values in a map
 
 pub twice : {A : Type 0} (b : Bool) (x y z : A) → cond b x (cond b y z) ≡ cond b x z
-twice true x y z = refl
-twice false x y z = refl
-
-pub unlike : false ≡ true → ⊥
-unlike e = cc
-
-swapped : {A : Type 0} (a b : Bool) (x y z : A) → (a ≡ true → b ≡ true → ⊥) → cond a x (cond b y z) ≡ cond b y (cond a x z)
-swapped true true x y z h = absurd (h refl refl)
-swapped true false x y z h = refl
-swapped false true x y z h = refl
-swapped false false x y z h = refl
-
-module _ {K : Type 0} {R : K → K → Ordering} (o : IsTotalOrder R) (same : IsAntisymmetric R) where
-  not_both : (a b q : K) → eq_by_cmp R a b ≡ false → eq_by_cmp R q b ≡ true → eq_by_cmp R q a ≡ true → ⊥
-  not_both a b q f tb ta =
-      let e : a ≡ b = sym (tells_apart same q a ta) ∙ tells_apart same q b tb in
-      unlike (sym f ∙ subst (λ k. eq_by_cmp R a k ≡ true) e ((eq_by_cmp_equiv o).refl a))
+twice b x y z = grind arith
 
 module _ {K X : Type 0} {R : K → K → Ordering} (o : IsTotalOrder R) (same : IsAntisymmetric R) where
   -- of two values of one key the second counts
   pub set-set : (m : Map R X) (a b : K) (v w : Option X) → eq_by_cmp R a b ≡ true → set (set m a v) b w ≡ set m b w
-  set-set m a b v w t = subst (λ k. set (set m a v) k w ≡ set m k w) (tells_apart same a b t) (same_map o same _ _ (λ q.
-      get-set o (set m a v) a w q ∙ ap (cond (eq_by_cmp R q a) w) (get-set o m a v q) ∙ twice (eq_by_cmp R q a) w v (get m q) ∙ sym (get-set o m a w q)))
+  set-set m a b v w t = same_map o same _ _ (λ q. grind (arith, get-set o (set m a v) b w q, get-set o m a v q, get-set o m b w q, tells_apart same a b t))
 
   -- values of two keys are set in any order
   pub set-swap : (m : Map R X) (a b : K) (v w : Option X) → eq_by_cmp R a b ≡ false → set (set m a v) b w ≡ set (set m b w) a v
   set-swap m a b v w f = same_map o same _ _ (λ q.
-      get-set o (set m a v) b w q ∙ ap (cond (eq_by_cmp R q b) w) (get-set o m a v q)
-      ∙ swapped (eq_by_cmp R q b) (eq_by_cmp R q a) w v (get m q) (not_both o same a b q f)
-      ∙ sym (get-set o (set m b w) a v q ∙ ap (cond (eq_by_cmp R q a) v) (get-set o m b w q)))
+      grind (arith, get-set o (set m a v) b w q, get-set o m a v q, get-set o (set m b w) a v q, get-set o m b w q, tells_apart same q a, tells_apart same q b, (eq_by_cmp_equiv o).refl a))
 
 pub put_back-none : (s : State) → put_back [] s ≡ s
 unfolding put_back

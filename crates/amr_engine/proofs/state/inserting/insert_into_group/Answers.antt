@@ -3,7 +3,7 @@ use Rattle.amr_config.specs.Routing.{group_wait_of}
 use Rattle.amr_labels.specs.Map.{get}
 use Rattle.amr_engine.specs.State.State.{State, group_key, timer_with}
 use Rattle.amr_engine.proofs.StateLemmas.Placed.{placed}
-use Rattle.amr_engine.proofs.Notifying.{on_ok}
+use Rattle.std.proofs.lemmas.Result.{on_ok_weaker}
 use Rattle.amr_engine.proofs.state.inserting.insert_into_group.Goals as goal
 
 pub put_member-requires : goal.put_member-requires
@@ -22,6 +22,6 @@ returns-clause-ok c =
     let now : c.moment.result ≡ s.moment = c.moment.ensures.value ∙ ap (λ (s : State). s.moment) put in
     let reset : c.timer_with-after.result ≡ timer_with s.moment (group_wait_of s.config route) c.args.alert.now (get s.timers group) =
     c.timer_with-after.ensures ∙ (λ i. timer_with (now i) (wait i) (c.get.ensures i) (c.in_ok-before.ensures.timer i)) in
-    on_ok c.change_timer.result _ _ (λ set. set
+    on_ok_weaker c.change_timer.result (λ set. set
     ∙ placed s c.put_member.new.self.state c.args.labels.now c.args.alert.now c.in_ok-clone.field-0 route group c.in_ok-member.member c.timer_with-after.result c.requires c.in_ok-member.ensures
     c.in_ok-clone.ensures.cases reset put) c.change_timer.ensures.ok

@@ -1,10 +1,10 @@
-use Rattle.std.proofs.Common.{◌≡◌, ◌∷◌, ◌++◌, [], None, arith, sym, ap, subst, ◌∙◌}
+use Rattle.std.proofs.Common.{[], ◌≡◌, ◌∷◌, ◌++◌, None, arith, sym, ap, subst, ◌∙◌}
 use Rattle.amr_labels.specs.Labels.{LabelSet, label_set_cmp, label_set_cmp_total, label_set_cmp-IsAntisymmetric}
 use Rattle.amr_rules.specs.declared.alert.Alert.{Alert}
 use Rattle.amr_tables.specs.Numbered.{Numbered, number_of, next_number, GetsNumber}
 use Rattle.amr_engine.specs.Indexes.RuleSources.{AllArrived}
 use Rattle.amr_engine.specs.State.Timed.{AreRemoved, alert_moment}
-use Rattle.amr_engine.proofs.Notifying.{on_ok}
+use Rattle.std.proofs.lemmas.Result.{on_ok_weaker}
 use Rattle.amr_engine.proofs.IndexesLemmas.Arriving.{arrived_more}
 use Rattle.amr_engine.proofs.StateLemmas.Scheduling.{scheduled_same, scheduled_roomier, scheduled_placed, unplaced}
 use Rattle.amr_engine.proofs.state.alert_table.AlertTable.add.Goals.{After-reserve, After-make_place}
@@ -26,7 +26,7 @@ known c =
     let t = c.self.inside in
     let u = c.make_place.new.self in
     let copy = c.in_ok-copy.copy in
-    let gets = on_ok c.make_place.result _ (GetsNumber label_set_cmp t.alerts u copy (next_number t.alerts)) (λ gets. gets (unplaced label_set_cmp t.alerts copy (new c))) c.make_place.ensures.number in
+    let gets = on_ok_weaker {Q = GetsNumber label_set_cmp t.alerts u copy (next_number t.alerts)} c.make_place.result (λ gets. gets (unplaced label_set_cmp t.alerts copy (new c))) c.make_place.ensures.number in
     let added : c.add.new.self ≡ t.sources ++ copy ∷ [] = c.in_ok-add.ensures.ok ∙ ap (λ labels. t.sources ++ labels ∷ []) (c.in_ok-clone.ensures.cases ∙ sym c.in_ok-copy.ensures.cases) in
     subst (AllArrived u) (sym added) (arrived_more c.make_place.result t.alerts u t.sources copy (next_number t.alerts) gets c.make_place.ensures.err c.self.invariant.1)
 
