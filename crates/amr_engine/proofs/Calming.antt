@@ -185,14 +185,7 @@ module _ (at : Moment) where
   pub all_first : (k l : ℕ) (s : State) (group : RouteLabels) (timer : GroupTimer) → IsCalm at s → get s.timers group ≡ Some timer
       → timer.next_flush + k * group_interval_of s.config group.route ≤ at
       → counted_run (advance (suc (k + l)) at s) ≡ plus_moves (counted_run (advance l at (later_by s group timer (suc k)))) (suc k)
-  all_first zero l s group timer calm timed late =
-      let interval = group_interval_of s.config group.route in
-      let soon : timer.next_flush ≤ at = omega (arith, late) in
-      let next : timer.next_flush + interval ≡ timer.next_flush + 1 * interval = omega arith in
-      let none : 0 + l ≡ l = omega arith in
-      ap (λ n. counted_run (advance (suc n) at s)) none
-      ∙ any_first l s group timer calm timed soon
-      ∙ ap (λ n. plus_moves (counted_run (advance l at (set_at s group timer n))) 1) next
+  all_first zero l s group timer calm timed late = let soon : timer.next_flush ≤ at = omega (arith, late) in grind (arith, any_first l s group timer calm timed soon)
   all_first (suc k) l s group timer calm timed late =
       let interval = group_interval_of s.config group.route in
       let soon : timer.next_flush ≤ at = omega (arith, late) in

@@ -7,7 +7,6 @@ pub mod Cascade
 pub mod Ahead
 pub mod Endings
 pub mod Preparing
-pub mod Putting
 pub mod Notifying
 pub mod Settling
 pub mod Copied

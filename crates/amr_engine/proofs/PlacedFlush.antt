@@ -124,13 +124,9 @@ module _ (group : RouteLabels) where
   all_dropped : (ms : Members) (s : State) (m : LabelSet × Alert) → Contains ms m → get (fold (drop_member group) s ms).placements (on_route group.route m.0) ≡ None
   all_dropped [] s m h = absurd (none_listed m h)
   all_dropped (x ∷ xs) s m h =
-      grind (
-        arith,
-        first_or_rest x m xs h,
-        still_none xs (drop_member group s x) (on_route group.route m.0),
-        get-removed route_labels_cmp_total route_labels_cmp-IsAntisymmetric s.placements (on_route group.route x.0),
-        all_dropped xs (drop_member group s x) m,
-      )
+      let gone = get-removed route_labels_cmp_total route_labels_cmp-IsAntisymmetric s.placements (on_route group.route x.0) in
+      let kept = still_none xs (drop_member group s x) (on_route group.route m.0) in
+      grind (arith, first_or_rest x m xs h, kept, gone, all_dropped xs (drop_member group s x) m)
 
   -- only members do
   dropped_is : (ms : Members) (s : State) → fold (drop_member group) s ms ≡ record s { placements = (fold (drop_member group) s ms).placements }
@@ -180,13 +176,10 @@ module _ (at now : Moment) (group : RouteLabels) (s : State) (order : now ≤ at
   marked [] is = record {
     copied = dropped_placed.copied;
     chosen_only = dropped_placed.chosen_only;
-    timed = λ member copy e. grind (
-      arith,
-      key_or_apart (group_key s.config member) group,
-      none_left is member copy e,
-      dropped_placed.timed member copy e,
-      set_timer_apart group (λ timer. record timer { empty_since = Some now }) dropped (group_key s.config member),
-    );
+    timed = λ member copy e.
+        let key : RouteLabels = group_key s.config member in
+        let other = set_timer_apart group (λ timer. record timer { empty_since = Some now }) dropped key in
+        grind (arith, key_or_apart key group, none_left is member copy e, dropped_placed.timed member copy e, other);
   }
 
   resolved_dropped : IsPlaced at (drop_resolved now group ms s)

@@ -372,9 +372,7 @@ module _ (config : Config) (a : Numbered RouteLabels Alert) (gs : Numbered Route
         in_order = strictly label_set_cmp_total (eq_by_cmp label_set_cmp) (λ x y. refl) (λ (p : LabelSet × Alert). (p.0, 0)) members (λ k d low high. same_less (label_set_cmp _ _) ∙ up k d low high) distinct
           where
             same_less : (r : Ordering) → is_lt (ordering_then r (nat_cmp 0 0)) ≡ is_lt r
-            same_less Less = refl
-            same_less Equal = ap is_lt (tied_itself nat_cmp_total 0)
-            same_less Greater = refl
+            same_less r = grind (arith, tied_itself nat_cmp_total 0)
 
         has_listed : (l : LabelSet) → has label_set_cmp (labels_of_members members) l ≡ (is_in config group (on_route group.route l) && is_some (get (map_of route_labels_cmp a) (on_route group.route l)))
         has_listed l =

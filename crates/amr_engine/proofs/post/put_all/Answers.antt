@@ -1,4 +1,4 @@
-use Rattle.std.proofs.Common.{fold, filter_map, ◌≡◌, ℕ, ◌+◌, ◌∷◌, ◌++◌, [], Some, None, List, length, drop, sym, ap, ◌∙◌}
+use Rattle.std.proofs.Common.{fold, filter_map, ◌≡◌, ℕ, ◌+◌, ◌∷◌, [], Some, None, List, length, drop, sym, ap, ◌∙◌, arith}
 use Rattle.std.proofs.lemmas.List.{drop_more, append_assoc}
 use Rattle.amr_labels.specs.Labels.{LabelSet}
 use Rattle.amr_events.specs.declared.posts.posted_alert.PostedAlert.{PostedAlert}
@@ -9,7 +9,6 @@ use Rattle.amr_engine.specs.Events.{put, skipped_from}
 use Rattle.amr_engine.specs.Weight.{alerts_weight}
 use Rattle.amr_engine.proofs.Copied.{put-config}
 use Rattle.amr_engine.proofs.Growing.{put_more}
-use Rattle.amr_engine.proofs.Putting.{valid_first, not_skipped, invalid_first, skipped_first}
 use Rattle.amr_engine.proofs.post.put_all.Goals.{in-Some+in_ok-put-in-Some, in-None+in_ok-push-in-None}
 use Rattle.amr_engine.proofs.post.put_all.Goals as goal
 
@@ -29,11 +28,10 @@ loop-index-preserved c =
       | in-Some+in_ok-put-in-Some w ↦
           let valid : LabelSet × Alert = (w.in-Some.labels, w.in-Some.alert) in
           let is : Some valid ≡ completed_alert now timeout alert = sym w.in-Some.is ∙ c.in_ok-labels.ensures in
-          let items : filter_map (completed_alert now timeout) (drop index posted) ≡ valid ∷ filter_map (completed_alert now timeout) rest =
-          ap (filter_map (completed_alert now timeout)) left ∙ valid_first now timeout alert rest valid is in
+          let items : filter_map (completed_alert now timeout) (drop index posted) ≡ valid ∷ filter_map (completed_alert now timeout) rest = grind (arith, left, is) in
           rw (w.store-is, w.quiet_groups-is, w.skipped-is) (record {
             ok = ap (λ (k : State). fold put k (filter_map (completed_alert now timeout) rest)) w.in_ok-put-in-Some.ensures.ok ∙ sym (ap (fold put s) items) ∙ inv.ok;
-            skipped = ap (λ more. c.loop-index.skipped ++ more) (sym (ap (skipped_from (index + 1) now timeout) left ∙ not_skipped now timeout alert rest valid (index + 1) is)) ∙ inv.skipped;
+            skipped = grind (arith, left, is, inv.skipped);
             kept = w.in_ok-put-in-Some.ensures.kept ∙ inv.kept;
             cache = w.in_ok-put-in-Some.ensures.cache;
             config = ap (λ (k : State). k.config) w.in_ok-put-in-Some.ensures.ok ∙ put-config s valid ∙ inv.config;
@@ -42,15 +40,10 @@ loop-index-preserved c =
           })
       | in-None+in_ok-push-in-None w ↦
           let is : None ≡ completed_alert now timeout alert = sym w.in-None.is ∙ c.in_ok-labels.ensures in
-          let items : filter_map (completed_alert now timeout) (drop index posted) ≡ filter_map (completed_alert now timeout) rest =
-          ap (filter_map (completed_alert now timeout)) left ∙ invalid_first now timeout alert rest is in
+          let items : filter_map (completed_alert now timeout) (drop index posted) ≡ filter_map (completed_alert now timeout) rest = grind (arith, left, is) in
           rw (w.store-is, w.quiet_groups-is, w.skipped-is) (record {
             ok = sym (ap (fold put s) items) ∙ inv.ok;
-            skipped =
-                ap (λ these. these ++ skipped_from (index + 1 + 1) now timeout rest) w.in_ok-push-in-None.ensures.ok
-                ∙ append_assoc c.loop-index.skipped ((index + 1) ∷ []) (skipped_from (index + 1 + 1) now timeout rest)
-                ∙ ap (λ more. c.loop-index.skipped ++ more) (sym (ap (skipped_from (index + 1) now timeout) left ∙ skipped_first now timeout alert rest (index + 1) is))
-                ∙ inv.skipped;
+            skipped = grind (arith, left, is, inv.skipped, w.in_ok-push-in-None.ensures.ok, append_assoc c.loop-index.skipped ((index + 1) ∷ []) (skipped_from (index + 1 + 1) now timeout rest));
             kept = inv.kept;
             cache = inv.cache;
             config = inv.config;
