@@ -1,5 +1,5 @@
 -- What leaves a group quiet: the clock, group timers, notifications, and the flush of another group.
-use Rattle.std.proofs.Common.{[], ◌≡◌, Bool, true, false, not, List, ◌∷◌, Some, map, cond, All, filter, fold, Ordering, refl, sym, ap, ◌∙◌, subst, arith}
+use Rattle.std.proofs.Common.{[], ◌≡◌, Bool, true, false, not, List, ◌∷◌, Some, map, All, filter, fold, Ordering, refl, sym, ap, ◌∙◌, subst, arith}
 use Rattle.std.specs.Ordering.{eq_by_cmp}
 use Rattle.std.specs.FinMap.{IsAntisymmetric}
 use Rattle.std.specs.FinMap.Entries.{where_key}
@@ -98,9 +98,7 @@ module _ (flushed : RouteLabels) where
     alerts = refl;
     silences = refl;
     members = λ group other. refl;
-    log = λ asked other.
-        get-insert log_key_cmp_total s.log key entry asked
-        ∙ ap (λ b. cond b (Some entry) (get s.log asked)) (apart log_key_cmp-IsAntisymmetric asked key (λ e. other integration (e ∙ of)));
+    log = λ asked other. grind (arith, get-insert log_key_cmp_total s.log key entry asked, apart log_key_cmp-IsAntisymmetric asked key (λ e. other integration (e ∙ of)));
   }
 
   notify_receiver_leaves : (at : Moment) (ms : Members) (s : State) → LeavesOthers flushed s (notify_receiver at flushed ms s)

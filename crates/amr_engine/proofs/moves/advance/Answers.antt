@@ -47,9 +47,7 @@ returns-in_default-2-clause-ok c =
     let less : made < move_limit = omega (arith, limit_is, c.if-made-ge-MOST_MOVES.false) in
     let next = rw c.in-Some.is at c.in_ok-due.ensures.due in
     let none = rw c.in_default-2.is at c.in_ok-more.ensures.made in
-    sym (goes_on move_limit made c.args.at c.loop-due.store.state c.args.store.now.state c.in-Some.due c.loop-due.invariant.ok less next
-    ∙ ap (λ s. plus_moves (counted_run (advance (move_limit - (made + 1)) c.args.at s)) (made + 1)) (sym c.in_ok-is_quiet.ensures.ok)
-    ∙ ap (λ r. plus_moves r (made + 1)) none)
+    grind (arith, goes_on move_limit made c.args.at c.loop-due.store.state c.args.store.now.state c.in-Some.due c.loop-due.invariant.ok less next, c.in_ok-is_quiet.ensures.ok, none)
 
 pub returns-in_default-2-clause-grown : goal.returns-in_default-2-clause-grown
 returns-in_default-2-clause-grown c =
