@@ -1,7 +1,7 @@
 -- The outcomes of the events that are passed forward.
-use Rattle.std.proofs.Common.{◌≡◌, ℕ, ◌+◌, ◌<◌, ◌≤◌, Bool, true, false, List, [], ◌∷◌, ◌++◌, length, take, drop, map, Some, cond, nat_le, refl, sym, ap, ◌∙◌, arith, slice_get, get_or, append_assoc, rules, tests}
+use Rattle.std.proofs.Common.{◌≡◌, ℕ, ◌+◌, ◌<◌, Bool, true, false, List, [], ◌∷◌, ◌++◌, length, take, drop, map, Some, cond, nat_le, refl, sym, ap, ◌∙◌, arith, slice_get, get_or, append_assoc}
 use Rattle.std.specs.List.{take_while}
-use Rattle.std.proofs.lemmas.List.{drop_more, get_or-take, length-take, map-append, at_drop_more}
+use Rattle.std.proofs.lemmas.List.{get_or-take, length-take, map-append, at_drop_more}
 use Rattle.std.proofs.lemmas.List.Sums.{take_while-cons}
 use Rattle.std.proofs.lemmas.Option.{slice_get_within, get_or_from_slice_get}
 use Rattle.amr_time.specs.Time.{Moment}
@@ -14,17 +14,13 @@ use Rattle.amr_replay.specs.Session.{state_at, outcomes_of, outcomes_passed, eve
 use Rattle.amr_replay.proofs.Positions.{run_more}
 
 -- the first of the events from n up to m
-first_of_rest : (es : List Event) (n m : ℕ) (e : Event) → slice_get es n ≡ Some e → n < m → drop n (take m es) ≡ e ∷ drop (n + 1) (take m es)
-first_of_rest es n m e at before =
-    let within = slice_get_within es n e at in
-    let long : n < length (take m es) = omega (arith, length-take m es) in
-    let head : get_or (take m es) n e ≡ e = get_or-take m es n e before ∙ get_or_from_slice_get es n e e at in
-    drop_more (take m es) n e long ∙ ap (λ x. x ∷ drop (n + 1) (take m es)) head
-
 passed_one : (c : Config) (es : List Event) (n m : ℕ) (e : Event) → slice_get es n ≡ Some e → n < m → outcomes_passed c es n m ≡ outcome_of (state_at c es n) e ∷ outcomes_passed c es (n + 1) m
 passed_one c es n m e at before =
-    ap (outcomes_of (state_at c es n)) (first_of_rest es n m e at before)
-    ∙ ap (λ s. outcome_of (state_at c es n) e ∷ outcomes_of s (drop (n + 1) (take m es))) (sym (run_more c es n e at))
+    let rest = drop (n + 1) (take m es) in
+    let head = get_or-take m es n e before ∙ get_or_from_slice_get es n e e at in
+    at_drop_more (outcomes_of (state_at c es n)) (take m es) n e (omega (arith, slice_get_within es n e at, length-take m es))
+    ∙ ap (λ d. outcomes_of (state_at c es n) (d ∷ rest)) head
+    ∙ ap (λ s. outcome_of (state_at c es n) e ∷ outcomes_of s rest) (sym (run_more c es n e at))
 
 -- one more outcome is returned
 pub told_more : (c : Config) (es : List Event) (n m : ℕ) (e : Event) (told : List code.Outcome) (o : code.Outcome) → slice_get es n ≡ Some e → n < m → outcome_view o ≡ outcome_of (state_at c es n) e → map outcome_view (told ++ o ∷ []) ++ outcomes_passed c es (n + 1) m ≡ map outcome_view told ++ outcomes_passed c es n m
@@ -39,22 +35,11 @@ count_of : {X : Type 0} (b : Bool) (x : X) (xs : List X) → length (cond b (x �
 count_of true x xs = omega arith
 count_of false x xs = refl
 
-until_more : (at : Moment) (es : List Event) (n : ℕ) (e : Event) → slice_get es n ≡ Some e → events_until at (drop n es) ≡ cond (nat_le e.at at) (events_until at (drop (n + 1) es) + 1) 0
+-- the event at n counts if it is at or before the moment, and else the count ends
+pub until_more : (at : Moment) (es : List Event) (n : ℕ) (e : Event) → slice_get es n ≡ Some e → events_until at (drop n es) ≡ cond (nat_le e.at at) (events_until at (drop (n + 1) es) + 1) 0
 until_more at es n e h =
     let rest = drop (n + 1) es in
     at_drop_more (events_until at) es n e (slice_get_within es n e h)
     ∙ ap (λ d. events_until at (d ∷ rest)) (get_or_from_slice_get es n e e h)
     ∙ ap length (take_while-cons (λ event. nat_le event.at at) e rest)
     ∙ count_of (nat_le e.at at) e (take_while (λ event. nat_le event.at at) rest)
-
--- the event at n is at or before the moment, and counts
-pub until_one : (at : Moment) (es : List Event) (n : ℕ) (e : Event) → slice_get es n ≡ Some e → e.at ≤ at → events_until at (drop n es) ≡ events_until at (drop (n + 1) es) + 1
-until_one at es n e h early =
-    let b : nat_le e.at at ≡ true = search (rules, tests) in
-    until_more at es n e h ∙ ap (λ b. cond b (events_until at (drop (n + 1) es) + 1) 0) b
-
--- the event at n is after the moment, and the count ends
-pub until_none : (at : Moment) (es : List Event) (n : ℕ) (e : Event) → slice_get es n ≡ Some e → at < e.at → events_until at (drop n es) ≡ 0
-until_none at es n e h late =
-    let b : nat_le e.at at ≡ false = search (rules, tests) in
-    until_more at es n e h ∙ ap (λ b. cond b (events_until at (drop (n + 1) es) + 1) 0) b

@@ -1,6 +1,6 @@
 -- One more event, and one less.
-use Rattle.std.proofs.Common.{◌≡◌, ℕ, ◌+◌, ◌<◌, ◌≤◌, List, [], ◌∷◌, ◌++◌, length, take, Some, refl, sym, ap, ◌∙◌, arith, slice_get, length-append, subst, ⊎_elim}
-use Rattle.std.proofs.lemmas.List.{take_more}
+use Rattle.std.proofs.Common.{◌≡◌, ℕ, ◌+◌, ◌<◌, ◌≤◌, List, [], ◌∷◌, ◌++◌, length, take, Some, refl, sym, ap, ◌∙◌, arith, slice_get, ⊎_elim}
+use Rattle.std.proofs.lemmas.List.{take_more, same_from_push}
 use Rattle.std.proofs.lemmas.Option.{slice_get_within, get_or_from_slice_get, slice_get_cases}
 use Rattle.std.proofs.lemmas.List.Sums.{fold-append}
 use Rattle.amr_config.specs.Stated.Config.{Config}
@@ -9,16 +9,6 @@ use Rattle.amr_events.specs.declared.version.Version.{Version}
 use Rattle.amr_engine.specs.State.State.{State, start}
 use Rattle.amr_engine.specs.Events.{after_event, after_events, run_of}
 use Rattle.amr_replay.specs.Session.{View, at_cursor, states_before}
-
-same_push : {X : Type 0} (xs ys : List X) (x y : X) → xs ++ x ∷ [] ≡ ys ++ y ∷ [] → (xs ≡ ys) × (x ≡ y)
-same_push [] [] x y e = (refl, cc)
-same_push {X} [] (w ∷ ys) x y e = absurd (omega (arith, ap length e, length-append {A = X} ys (y ∷ [])))
-same_push {X} (v ∷ xs) [] x y e = absurd (omega (arith, ap length e, length-append {A = X} xs (x ∷ [])))
-same_push (v ∷ xs) (w ∷ ys) x y e =
-    let t : xs ++ x ∷ [] ≡ ys ++ y ∷ [] = cc in
-    let h : v ≡ w = cc in
-    let r = same_push xs ys x y t in
-    let q = r.0 in (cc, r.1)
 
 before_push : (s : State) (es : List Event) (e : Event) → states_before s (es ++ e ∷ []) ≡ states_before s es ++ after_events s es ∷ []
 before_push s [] e = refl
@@ -46,16 +36,14 @@ at_next c version es n s s' past past' e v at is grown =
     let older : past' ≡ states_before (start c) (take (n + 1) es) = grown ∙ ap (λ t. t ++ s ∷ []) before ∙ ap (λ t. states_before (start c) (take n es) ++ t ∷ []) same ∙ sym (before_more c es n e at) in
     λ i. view_at c version es (n + 1) (state i) (older i)
 
--- one event back
-at_last : (c : Config) (version : Version) (es : List Event) (n : ℕ) (s s' : State) (past past' : List State) (e : Event) → view_at c version es (n + 1) s past ≡ at_cursor c version es (n + 1) → slice_get es n ≡ Some e → past ≡ past' ++ s' ∷ [] → view_at c version es n s' past' ≡ at_cursor c version es n
-at_last c version es n s s' past past' e v at popped =
-    let both = same_push past' (states_before (start c) (take n es)) s' (run_of c (take n es)) (sym popped ∙ ap (λ (w : View). w.past) v ∙ before_more c es n e at) in
-    λ i. view_at c version es n (both.1 i) (both.0 i)
-
 pub item : (es : List Event) (n : ℕ) → n < length es → (e : Event) × (slice_get es n ≡ Some e)
 item es n h = ⊎_elim (λ w. (w.0, w.2)) (λ w. absurd (omega (arith, w.0))) (slice_get_cases es n).1
 
+-- one event back
 pub at_before : (c : Config) (version : Version) (es : List Event) (m n : ℕ) (s s' : State) (past past' : List State) → m ≡ n + 1 → m ≤ length es → view_at c version es m s past ≡ at_cursor c version es m → past ≡ past' ++ s' ∷ [] → view_at c version es n s' past' ≡ at_cursor c version es n
 at_before c version es m n s s' past past' one within v popped =
-    let e = item es n (omega arith) in
-    at_last c version es n s s' past past' e.0 (subst (λ k. view_at c version es k s past ≡ at_cursor c version es k) one v) e.1 popped
+    let (e, at) = item es n (omega arith) in
+    let before : past ≡ states_before (start c) (take m es) = ap (λ (w : View). w.past) v in
+    let more = ap (λ k. states_before (start c) (take k es)) one ∙ before_more c es n e at in
+    let both = same_from_push past' (states_before (start c) (take n es)) s' (run_of c (take n es)) (sym popped ∙ before ∙ more) in
+    λ i. view_at c version es n (both.1 i) (both.0 i)

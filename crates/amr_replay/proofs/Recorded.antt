@@ -26,15 +26,13 @@ Records = List (List Change)
 
 pub length-records : (s : State) (es : List Event) (rs : Records) → AreRecords s es rs → length rs ≡ length es
 length-records s [] [] h = refl
-length-records s [] (r ∷ rs) h = absurd h
-length-records s (e ∷ es) [] h = absurd h
 length-records s (e ∷ es) (r ∷ rs) h = ap suc (length-records (after_event s e) es rs h.1)
+length-records s es rs h = absurd h
 
 records-push : (s : State) (es : List Event) (rs : Records) (e : Event) (r : List Change) → AreRecords s es rs → IsRecord (after_events s es) e r → AreRecords s (es ++ e ∷ []) (rs ++ r ∷ [])
 records-push s [] [] e r h is = (is, tt)
-records-push s [] (q ∷ rs) e r h is = absurd h
-records-push s (d ∷ es) [] e r h is = absurd h
 records-push s (d ∷ es) (q ∷ rs) e r h is = (h.0, records-push (after_event s d) es rs e r h.1 is)
+records-push s es rs e r h is = absurd h
 
 records-pop : (s : State) (es : List Event) (rs : Records) (e : Event) (r : List Change) → AreRecords s (es ++ e ∷ []) (rs ++ r ∷ []) → AreRecords s es rs
 records-pop s [] [] e r h = tt
@@ -45,7 +43,7 @@ records-pop s (d ∷ x ∷ es) [] e r h = absurd h.1
 records-pop s (d ∷ es) (q ∷ rs) e r h = (h.0, records-pop (after_event s d) es rs e r h.1)
 
 -- the record of one of the first n events
-record_at : (n : ℕ) (s : State) (es : List Event) (rs : Records) (k : ℕ) (e : Event) (m : ℕ) → AreRecords s (take n es) rs → k < n → slice_get es k ≡ Some e → option_map length (slice_get rs k) ≡ Some m
+pub record_at : (n : ℕ) (s : State) (es : List Event) (rs : Records) (k : ℕ) (e : Event) (m : ℕ) → AreRecords s (take n es) rs → k < n → slice_get es k ≡ Some e → option_map length (slice_get rs k) ≡ Some m
     → HasEntries (after_events s (take k es)) e m
 record_at zero s es rs k e m h before at is = absurd (omega (arith, before))
 record_at (suc n) s [] rs k e m h before at is = absurd (cc)
@@ -74,10 +72,6 @@ is_record before after e o r told is kept = record {
 -- there are as many records as events before the cursor
 pub records_count : (c : Config) (es : List Event) (n : ℕ) (rs : Records) → AreRecords (start c) (take n es) rs → n ≤ length es → length rs ≡ n
 records_count c es n rs h within = omega (arith, length-records (start c) (take n es) rs h, length-take n es)
-
-pub record_has : (c : Config) (es : List Event) (n : ℕ) (rs : Records) (k : ℕ) (e : Event) (m : ℕ) → AreRecords (start c) (take n es) rs → k < n → slice_get es k ≡ Some e → option_map length (slice_get rs k) ≡ Some m
-    → HasEntries (state_at c es k) e m
-record_has c es n rs k e m h before at is = record_at n (start c) es rs k e m h before at is
 
 pub refused_has_none : (s : State) (e : Event) (m : ℕ) (reason : Reason) → HasEntries s e m → outcome_of s e ≡ Refused reason → m ≡ 0
 refused_has_none s e m reason has refused = sym has.2 ∙ ap length (has.1.empty reason refused)

@@ -5,7 +5,8 @@ use Rattle.std.proofs.lemmas.List.{drop_all}
 use Rattle.std.specs.declared.cmp.Ordering.{Ordering}
 use Rattle.std.specs.declared.cmp.Ordering.TheVariants.{Less, Equal, Greater}
 use Rattle.std.specs.Ordering.{is_gt, ordering_reverse}
-use Rattle.std.proofs.lemmas.Bool.{le-leb, lt-leb, leb-true}
+use Rattle.std.proofs.lemmas.Bool.{le-leb, lt-leb, leb-true, cond-true, cond-false}
+use Rattle.std.proofs.lemmas.Option.{cond_some}
 use Rattle.amr_time.specs.Time.{Moment}
 use Rattle.amr_events.specs.Posts.Reasons.{Reason}
 use Rattle.amr_events.specs.Actions.Events.{Event}
@@ -25,24 +26,19 @@ after_done : (s : State) (event : Event) (moves : List Due) (after : State) → 
 unfolding after_event
 after_done s event moves after e = ap (λ (r : Done). elim r [ Ok done ↦ done.1 | Err reason ↦ s ]) e
 
-after_refused : (s : State) (event : Event) (reason : Reason) → do_event s event ≡ Err reason → after_event s event ≡ s
-unfolding after_event
-after_refused s event reason e = ap (λ (r : Done). elim r [ Ok done ↦ done.1 | Err other ↦ s ]) e
-
-outcome_is : (s : State) (event : Event) (r : Done) → do_event s event ≡ r → outcome_of s event ≡ outcome_from s event r
-unfolding outcome_of
-outcome_is s event r e = ap (outcome_from s event) e
-
 pub state_is_said : StateIsSaid
 state_is_said s event moves after does = after_done s event moves after (Does-do_within move_limit s event moves after does)
 
 pub refused_is_left : RefusedIsLeft
-refused_is_left s event reason refuses = after_refused s event reason (Refuses-do_within move_limit s event reason refuses)
+unfolding after_event
+refused_is_left s event reason refuses =
+    ap (λ (r : Done). elim r [ Ok done ↦ done.1 | Err other ↦ s ]) (Refuses-do_within move_limit s event reason refuses)
 
 pub refused_is_said : RefusedIsSaid
+unfolding outcome_of
 refused_is_said s event reason = (
-  λ e. by (do_event s event) refl (sym (outcome_is s event (do_event s event) refl) ∙ e),
-  λ refuses. outcome_is s event (Err reason) (Refuses-do_within move_limit s event reason refuses),
+  λ e. by (do_event s event) refl e,
+  λ refuses. ap (outcome_from s event) (Refuses-do_within move_limit s event reason refuses),
 )
   where
     by : (r : Done) → do_event s event ≡ r → outcome_from s event r ≡ Refused reason → Refuses move_limit s event reason
@@ -52,9 +48,10 @@ refused_is_said s event reason = (
         do_within-Refuses move_limit s event reason (is ∙ ap (λ (x : Reason). Err x) same)
 
 pub accepted_is_done : AcceptedIsDone
+unfolding outcome_of
 accepted_is_done s event count notes skipped = (
-  λ e. by (do_event s event) refl (sym (outcome_is s event (do_event s event) refl) ∙ e),
-  λ d. outcome_is s event (Ok (d.moves, after_event s event)) (Does-do_within move_limit s event d.moves (after_event s event) d.does)
+  λ e. by (do_event s event) refl e,
+  λ d. ap (outcome_from s event) (Does-do_within move_limit s event d.moves (after_event s event) d.does)
       ∙ (λ i. Accepted (sym d.count_is i) (sym d.notes_are i) (sym d.skipped_are i)),
 )
   where
@@ -72,9 +69,10 @@ accepted_is_done s event count notes skipped = (
     by (Err other) is e = absurd (cc)
 
 pub labels_change_nothing : LabelsChangeNothing
+unfolding outcome_of
 labels_change_nothing s event label =
     let is : do_event s event ≡ Ok ([], s) = do_within-label move_limit s event label in (
-      outcome_is s event (Ok ([], s)) is
+      ap (outcome_from s event) is
           ∙ (λ i. Accepted 0 (drop_all (length s.notes) s.notes (omega arith) i) (sym (none_skipped (at_moment event.at s) event.act label) i)),
       after_done s event [] s is,
     )
@@ -89,16 +87,6 @@ one_least : (a b : Due) (list : List Due) → IsLeast a list → IsLeast b list 
 one_least a b list h k =
     due_cmp-IsAntisymmetric a b (alike (due_cmp a b) (due_cmp b a) (due_cmp_total.antisymm a b) (h.before_all b k.among) (k.before_all a h.among))
 
-due_by-within : (at : Moment) (due : Due) → due.moment ≤ at → due_by at (Some due) ≡ Some due
-due_by-within at due h = ap (λ b. if b then Some due else None) (le-leb due.moment at h)
-
-due_by-later : (at : Moment) (due : Due) → at < due.moment → due_by at (Some due) ≡ None
-due_by-later at due h = ap (λ b. if b then Some due else None) (lt-leb due.moment at h)
-
-from_due_by : (at : Moment) (least due : Due) (b : Bool) → nat_le least.moment at ≡ b → (if b then Some least else None) ≡ Some due → (least ≡ due) × (least.moment ≤ at)
-from_due_by at least due true is e = (cc, leb-true least.moment at is)
-from_due_by at least due false is e = absurd (cc)
-
 pub next_is_least : NextIsLeast
 unfolding next_due
 next_is_least at s due = (to (least_due (dues s)) refl, from (least_due (dues s)) refl)
@@ -106,14 +94,14 @@ next_is_least at s due = (to (least_due (dues s)) refl, from (least_due (dues s)
     to : (o : Option Due) → least_due (dues s) ≡ o → due_by at o ≡ Some due → IsLeast due (dues s) × (due.moment ≤ at)
     to None is e = absurd (cc)
     to (Some least) is e =
-        let found = from_due_by at least due (nat_le least.moment at) refl e in
-        subst (λ (x : Due). IsLeast x (dues s) × (x.moment ≤ at)) found.0 (least_due-IsLeast (dues s) least is, found.1)
+        let (within, same) = cond_some (nat_le least.moment at) least due e in
+        subst (λ (x : Due). IsLeast x (dues s) × (x.moment ≤ at)) same (least_due-IsLeast (dues s) least is, leb-true least.moment at within)
 
     from : (o : Option Due) → least_due (dues s) ≡ o → IsLeast due (dues s) × (due.moment ≤ at) → due_by at o ≡ Some due
     from None is h = absurd (subst (IsIn due) (least_due-empty (dues s) is) (h.0.among))
     from (Some least) is h =
         let same : due ≡ least = one_least due least (dues s) h.0 (least_due-IsLeast (dues s) least is) in
-        ap (λ (x : Due). due_by at (Some x)) (sym same) ∙ due_by-within at due h.1
+        ap (λ (x : Due). due_by at (Some x)) (sym same) ∙ cond-true (nat_le due.moment at) (Some due) None (le-leb due.moment at h.1)
 
 pub none_is_later : NoneIsLater
 unfolding next_due
@@ -121,4 +109,4 @@ none_is_later at s = (λ e. Advances-ends at s [] s (e, refl), from (least_due (
   where
     from : (o : Option Due) → least_due (dues s) ≡ o → ((due : Due) → IsIn due (dues s) → at < due.moment) → due_by at o ≡ None
     from None is later = refl
-    from (Some least) is later = due_by-later at least (later least ((least_due-IsLeast (dues s) least is).among))
+    from (Some least) is later = cond-false (nat_le least.moment at) (Some least) None (lt-leb least.moment at (later least ((least_due-IsLeast (dues s) least is).among)))

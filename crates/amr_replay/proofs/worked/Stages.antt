@@ -1,11 +1,9 @@
 -- Inhibition, silences, resolved alerts, what is removed, and the routes that are chosen.
 use Rattle.std.specs.Prelude.{◌≡◌, ℕ, Bool, true, false, List, [], ◌∷◌, Option, Some, None, codes, ◌+◌, ◌-◌, ◌*◌, map, length}
 use Rattle.std.proofs.Common.{refl}
-use Rattle.amr_labels.specs.Map.{entries, from_entries}
-use Rattle.amr_labels.specs.Map.{computing}
+use Rattle.amr_labels.specs.Map.{entries, from_entries, computing}
 use Rattle.amr_labels.specs.Labels.{Text}
 use Rattle.amr_labels.specs.Matcher.Matchers.{Matcher}
-use Rattle.amr_labels.specs.declared.matcher.Operator.TheVariants as operator
 use Rattle.amr_time.specs.Time.{Moment, second, minute, hour}
 use Rattle.amr_config.specs.declared.stated.route.Route.{Route}
 use Rattle.amr_config.specs.Stated.Config.{Config}
@@ -15,26 +13,13 @@ use Rattle.amr_rules.specs.declared.silence.Silence.{Silence}
 use Rattle.amr_rules.specs.declared.dedup.LogEntry.{LogEntry}
 use Rattle.amr_engine.specs.declared.state.notification.LogKey.{LogKey}
 use Rattle.amr_engine.specs.Events.{run_of, replaying}
-use Rattle.amr_replay.proofs.worked.Setting.{ten, root, config_ops, alert, posts, ticks, notified}
-
-abbrev is : Text → Text → Matcher
-is name value = record { name = name; operator = operator.Equal; value = value }
+use Rattle.amr_replay.proofs.worked.Setting.{ten, root, config_ops, is, config_by_severity, x, alert, long, posts, ticks, short_alert, notified}
 
 -- only the critical alert is notified
-abbrev config_by_severity : Config
-config_by_severity = record config_ops {
-  rules = record {
-    source = is (codes "severity") (codes "critical") ∷ [];
-    target = is (codes "severity") (codes "warning") ∷ [];
-    equal = codes "cluster" ∷ [];
-  } ∷ [];
-}
-
 abbrev severity : Text → List (Text × Text)
 severity level = (codes "severity", level) ∷ []
 
-pub an_inhibited_alert_is_not_told : map notified (run_of config_by_severity (posts ten (
-    alert (severity (codes "critical")) (Some ten) (Some (ten + 10 * hour)) ∷ alert (severity (codes "warning")) (Some ten) (Some (ten + 10 * hour)) ∷ [])
+pub an_inhibited_alert_is_not_told : map notified (run_of config_by_severity (posts ten (long (severity (codes "critical")) ∷ long (severity (codes "warning")) ∷ [])
     ∷ ticks (ten + 30 * second) ∷ [])).notes ≡ (ten + 30 * second, (severity (codes "critical") ∷ [], [])) ∷ []
 unfolding replaying
 an_inhibited_alert_is_not_told = refl
@@ -52,7 +37,7 @@ config_on_both_sides = record config_ops {
 abbrev both : List (Text × Text)
 both = (codes "a", codes "1") ∷ (codes "alertname", codes "X") ∷ []
 
-pub an_alert_does_not_inhibit_itself : map notified (run_of config_on_both_sides (posts ten (alert both (Some ten) (Some (ten + 10 * hour)) ∷ []) ∷ ticks (ten + 30 * second) ∷ [])).notes
+pub an_alert_does_not_inhibit_itself : map notified (run_of config_on_both_sides (posts ten (long both ∷ []) ∷ ticks (ten + 30 * second) ∷ [])).notes
     ≡ (ten + 30 * second, (both ∷ [], [])) ∷ []
 unfolding replaying
 an_alert_does_not_inhibit_itself = refl
@@ -92,9 +77,6 @@ another_list_of_matchers_makes_a_new_silence = refl
 abbrev config_mail : Config
 config_mail = record config_ops { receivers = record { name = codes "ops"; integrations = record { kind = codes "email"; place = 0; send_resolved = false } ∷ [] } ∷ [] }
 
-abbrev x : List (Text × Text)
-x = (codes "alertname", codes "X") ∷ []
-
 abbrev short_page : List Event
 short_page = posts ten (alert x (Some ten) (Some (ten + 3 * minute)) ∷ []) ∷ ticks (ten + 5 * minute + 30 * second) ∷ []
 
@@ -114,9 +96,6 @@ unfolding replaying
 a_webhook_is_told_of_the_end = refl
 
 -- no notification, no group, and the alert is removed at half past
-abbrev short_alert : List Event
-short_alert = posts ten (alert x (Some ten) (Some (ten + 20 * second)) ∷ []) ∷ ticks (ten + minute) ∷ []
-
 pub a_short_alert_leaves_no_group : length (entries (run_of config_ops short_alert).timers) ≡ 0
 unfolding replaying
 a_short_alert_leaves_no_group = refl

@@ -1,10 +1,8 @@
 -- The verdicts of `explain`, and a reload.
-use Rattle.std.specs.Prelude.{◌≡◌, Bool, true, false, List, [], ◌∷◌, Some, None, Ok, codes, ◌+◌, ◌-◌, ◌*◌, map, take}
+use Rattle.std.specs.Prelude.{◌≡◌, Bool, true, false, List, [], ◌∷◌, Some, None, Ok, codes, ◌+◌, ◌-◌, ◌*◌, ◌++◌, map, take}
 use Rattle.std.proofs.Common.{refl}
 use Rattle.amr_labels.specs.Map.{entries, from_entries}
 use Rattle.amr_labels.specs.Labels.{Text}
-use Rattle.amr_labels.specs.Matcher.Matchers.{Matcher}
-use Rattle.amr_labels.specs.declared.matcher.Operator.TheVariants as operator
 use Rattle.amr_time.specs.Time.{Moment, second, minute, hour}
 use Rattle.amr_config.specs.declared.stated.route.Grouping.TheVariants.{Named}
 use Rattle.amr_config.specs.Stated.Config.{Config}
@@ -15,19 +13,7 @@ use Rattle.amr_engine.specs.Events.{run_of, replaying}
 use Rattle.amr_engine.specs.declared.verdict.Finding.TheVariants as finding
 use Rattle.amr_engine.specs.declared.verdict.Verdict.TheVariants as verdict
 use Rattle.amr_engine.specs.Explain.{verdicts}
-use Rattle.amr_replay.proofs.worked.Setting.{ten, root, config_ops, alert, posts, ticks}
-
-abbrev is : Text → Text → Matcher
-is name value = record { name = name; operator = operator.Equal; value = value }
-
-abbrev config_by_severity : Config
-config_by_severity = record config_ops {
-  rules = record {
-    source = is (codes "severity") (codes "critical") ∷ [];
-    target = is (codes "severity") (codes "warning") ∷ [];
-    equal = codes "cluster" ∷ [];
-  } ∷ [];
-}
+use Rattle.amr_replay.proofs.worked.Setting.{ten, root, config_ops, is, config_by_severity, x, alert, long, posts, ticks, short_alert}
 
 abbrev labels : Text → Text → List (Text × Text)
 labels name severity = (codes "alertname", name) ∷ (codes "cluster", codes "a") ∷ (codes "severity", severity) ∷ []
@@ -41,7 +27,7 @@ down = labels (codes "Down") (codes "critical")
 abbrev lat_and_down : List Event
 lat_and_down =
     record { at = ten - hour; act = Act.Silence (record { id = None; new_id = 7; matchers = Some (is (codes "severity") (codes "warning") ∷ []); starts_at = ten - hour; ends_at = ten + 8 * hour }) }
-    ∷ posts ten (alert lat (Some ten) (Some (ten + 10 * hour)) ∷ alert down (Some ten) (Some (ten + 20 * minute)) ∷ [])
+    ∷ posts ten (long lat ∷ alert down (Some ten) (Some (ten + 20 * minute)) ∷ [])
     ∷ ticks (ten + minute)
     ∷ ticks (ten + 20 * minute)
     ∷ []
@@ -58,19 +44,22 @@ pub explained_as_silenced : verdicts (run_of config_by_severity lat_and_down) (f
 unfolding replaying verdicts
 explained_as_silenced = refl
 
-abbrev x : List (Text × Text)
-x = (codes "alertname", codes "X") ∷ []
-
-abbrev short_alert : List Event
-short_alert = posts ten (alert x (Some ten) (Some (ten + 20 * second)) ∷ []) ∷ ticks (ten + minute) ∷ ticks (ten + 30 * minute) ∷ []
-
-pub a_short_alert_is_explained_as_ended : verdicts (run_of config_ops (take 2 short_alert)) (from_entries x) ≡ verdict.Ended ∷ []
+pub a_short_alert_is_explained_as_ended : verdicts (run_of config_ops short_alert) (from_entries x) ≡ verdict.Ended ∷ []
 unfolding replaying verdicts
 a_short_alert_is_explained_as_ended = refl
 
-pub a_removed_alert_is_unknown : verdicts (run_of config_ops short_alert) (from_entries x) ≡ verdict.Unknown ∷ []
+pub a_removed_alert_is_unknown : verdicts (run_of config_ops (short_alert ++ ticks (ten + 30 * minute) ∷ [])) (from_entries x) ≡ verdict.Unknown ∷ []
 unfolding replaying verdicts
 a_removed_alert_is_unknown = refl
+
+-- the receiver has no integration
+abbrev config_silent : Config
+config_silent = record config_ops { receivers = record { name = codes "ops"; integrations = [] } ∷ [] }
+
+pub explained_as_nowhere : verdicts (run_of config_silent (posts ten (long x ∷ []) ∷ ticks (ten + 30 * second) ∷ [])) (from_entries x)
+    ≡ verdict.AtRoute 0 (codes "ops") None finding.Nowhere ∷ []
+unfolding replaying verdicts
+explained_as_nowhere = refl
 
 -- a reload drops the groups and makes them anew
 abbrev xa : List (Text × Text)
@@ -80,7 +69,7 @@ abbrev by_team : Config
 by_team = record config_ops { routes = record (root (codes "ops")) { group_by = Some (Named (codes "team" ∷ [])) } ∷ [] }
 
 abbrev reloaded : List Event
-reloaded = posts ten (alert xa (Some ten) (Some (ten + 10 * hour)) ∷ []) ∷ ticks (ten + 30 * second) ∷ record { at = ten + 2 * minute; act = Act.Reload (Ok by_team) } ∷ []
+reloaded = posts ten (long xa ∷ []) ∷ ticks (ten + 30 * second) ∷ record { at = ten + 2 * minute; act = Act.Reload (Ok by_team) } ∷ []
 
 abbrev timer_shown : RouteLabels × GroupTimer → List (Text × Text) × (Bool × Moment)
 timer_shown group = (entries group.0.labels, (group.1.flushed, group.1.next_flush))
