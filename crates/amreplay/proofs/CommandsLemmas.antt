@@ -1,6 +1,4 @@
 pub mod Talks
-pub mod Hearing
-pub mod Printing
 pub mod EventsPassed
 pub mod Commands
 pub mod Answering

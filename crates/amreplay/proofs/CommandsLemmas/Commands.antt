@@ -1,5 +1,6 @@
 -- What each command leaves.
-use Rattle.std.proofs.Common.{◌≡◌, ℕ, ◌+◌, ◌-◌, ◌<◌, ◌≤◌, true, false, nat_lt, nat_le, length, refl, sym, ap, ◌∙◌, inl, inr, arith, rules, tests, String, string_bytes}
+use Rattle.std.proofs.Common.{◌≡◌, ℕ, ◌+◌, ◌-◌, ◌<◌, ◌≤◌, length, refl, sym, ap, ◌∙◌, inl, inr, arith, String, string_bytes}
+use Rattle.std.proofs.lemmas.Bool.{lt-ltb, le-ltb, le-leb, lt-leb}
 use Rattle.std.specs.Global.{Vec}
 use Rattle.std.specs.declared.alloc.Global.{Global}
 use Rattle.amr_time.specs.Time.{Moment}
@@ -27,42 +28,33 @@ moves_answered : (i : Incident) (n n' to : ℕ) (move : Move) (answer : Answer) 
 moves_answered i n n' to move answer reply takes (inl e) = inl (reply ∙ e)
 moves_answered i n n' to move answer reply takes (inr w) = inr (takes w.0, w.1)
 
-step_reply : (i : Incident) (n : ℕ) → n < length i.events → reply_to i n (command.Move Step) ≡ reply_to_move i n word.Step (n + 1)
-unfolding reply_to
-step_reply i n h = let b : nat_lt n (length i.events) ≡ true = search (rules, tests) in rw b refl
-
 pub step_answered : (i : Incident) (n n' : ℕ) (answer : Answer) → n < length i.events → Moves i n word.Step (n + 1) n' answer → Answered i n n' (Asks (command.Move Step)) answer
-step_answered i n n' answer h = moves_answered i n n' (n + 1) Step answer (step_reply i n h) (λ _. h)
+unfolding reply_to
+step_answered i n n' answer h = moves_answered i n n' (n + 1) Step answer (rw (lt-ltb n (length i.events) h) refl) (λ _. h)
 
 pub step_at_end : (i : Incident) (n : ℕ) → n ≡ length i.events → reply_to i n (command.Move Step) ≡ left n (Refused word.Step AtEnd)
 unfolding reply_to
-step_at_end i n e = let h : length i.events ≤ n = omega (arith, e) in let b : nat_lt n (length i.events) ≡ false = search (rules, tests) in rw b refl
-
-seek_reply : (i : Incident) (n to : ℕ) → to ≤ length i.events → reply_to i n (command.Move (Seek to)) ≡ reply_to_move i n word.Seek to
-unfolding reply_to
-seek_reply i n to h = let b : nat_le to (length i.events) ≡ true = search (rules, tests) in rw b refl
+step_at_end i n e = rw (le-ltb n (length i.events) (omega (arith, e))) refl
 
 pub seek_answered : (i : Incident) (n n' to : ℕ) (answer : Answer) → to ≤ length i.events → Moves i n word.Seek to n' answer → Answered i n n' (Asks (command.Move (Seek to))) answer
-seek_answered i n n' to answer h = moves_answered i n n' to (Seek to) answer (seek_reply i n to h) (λ lt. (lt, h))
+unfolding reply_to
+seek_answered i n n' to answer h = moves_answered i n n' to (Seek to) answer (rw (le-leb to (length i.events) h) refl) (λ lt. (lt, h))
 
 pub seek_out_of_range : (i : Incident) (n to : ℕ) → length i.events < to → reply_to i n (command.Move (Seek to)) ≡ left n (Refused word.Seek OutOfRange)
 unfolding reply_to
-seek_out_of_range i n to h = let b : nat_le to (length i.events) ≡ false = search (rules, tests) in rw b refl
-
-seek_time_reply : (i : Incident) (n : ℕ) (at : Moment) → reply_to i n (command.Move (SeekTime at)) ≡ reply_to_move i n word.SeekTime (events_until at i.events)
-unfolding reply_to
-seek_time_reply i n at = refl
+seek_out_of_range i n to h = rw (lt-leb to (length i.events) h) refl
 
 pub seek_time_answered : (i : Incident) (n n' : ℕ) (at : Moment) (answer : Answer) → Moves i n word.SeekTime (events_until at i.events) n' answer → Answered i n n' (Asks (command.Move (SeekTime at))) answer
-seek_time_answered i n n' at answer = moves_answered i n n' (events_until at i.events) (SeekTime at) answer (seek_time_reply i n at) (λ lt. lt)
+unfolding reply_to
+seek_time_answered i n n' at answer = moves_answered i n n' (events_until at i.events) (SeekTime at) answer refl (λ lt. lt)
 
 pub back_reply : (i : Incident) (n : ℕ) → 0 < n → reply_to i n (command.Move Back) ≡ left (n - 1) WentBack
 unfolding reply_to
-back_reply i n h = let b : nat_lt 0 n ≡ true = search (rules, tests) in rw b refl
+back_reply i n h = rw (lt-ltb 0 n h) refl
 
 pub back_at_start : (i : Incident) (n : ℕ) → n ≡ 0 → reply_to i n (command.Move Back) ≡ left n (Refused word.Back AtStart)
 unfolding reply_to
-back_at_start i n e = let h : n ≤ 0 = omega (arith, e) in let b : nat_lt 0 n ≡ false = search (rules, tests) in rw b refl
+back_at_start i n e = rw (le-ltb 0 n (omega (arith, e))) refl
 
 pub trial_reply : (i : Incident) (n : ℕ) (event : Event) (text : String Global) → string_bytes text ≡ tried_lines n event (outcome_of (state_in i n) event) → reply_to i n (command.Trial event) ≡ left n (Built text)
 unfolding reply_to

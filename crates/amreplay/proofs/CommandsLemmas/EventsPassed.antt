@@ -1,19 +1,20 @@
 -- Commands that pass events: their lines, one after another, and the cursor after them.
-use Rattle.std.proofs.Common.{◌≡◌, ℕ, ◌+◌, ◌<◌, ◌≤◌, List, [], ◌∷◌, ◌++◌, length, take, drop, map, get_or, Some, slice_get, refl, sym, ap, ◌∙◌, subst, arith, append_assoc, append-nil, length-drop, length-append, ⊎_elim, String, string_bytes}
+use Rattle.std.proofs.Common.{◌≡◌, ℕ, zero, suc, ◌+◌, ◌<◌, ◌≤◌, List, [], ◌∷◌, ◌++◌, length, take, drop, map, get_or, Some, slice_get, refl, sym, ap, ◌∙◌, subst, arith, append_assoc, append-nil, length-drop, add-one, String, string_bytes}
 use Rattle.std.specs.declared.alloc.Global.{Global}
-use Rattle.std.proofs.lemmas.List.{get_or-drop, take_more, length-map, length-take, map-append, drop_all}
-use Rattle.std.proofs.lemmas.Option.{slice_get_cases, slice_get_within, get_or_from_slice_get, slice_get_read}
+use Rattle.std.proofs.lemmas.List.{get_or-drop, length-map, length-take, drop_all}
+use Rattle.std.proofs.lemmas.Option.{slice_get_within, get_or_from_slice_get, slice_get_read}
 use Rattle.amreplay.specs.Lines.Printed.{event_lines}
 use Rattle.amreplay.specs.Lines.LastLines.{moves_line}
 use Rattle.amreplay.specs.declared.lines.word.Word.{Word}
 use Rattle.amr_config.specs.Stated.Config.{Config}
 use Rattle.amr_events.specs.Actions.Events.{Event}
 use Rattle.amr_engine.specs.State.State.{State}
-use Rattle.amr_engine.specs.Events.{Outcome, outcome_of, after_event}
+use Rattle.amr_engine.specs.Events.{outcome_of, after_event}
 use Rattle.amr_engine.specs.declared.outcome.Outcome as code
 use Rattle.amr_engine.specs.Outcomes.{outcome_view}
 use Rattle.amr_replay.specs.Session.{View, at_cursor, state_at, outcomes_of, outcomes_passed}
 use Rattle.amr_replay.proofs.Passed.{told_more}
+use Rattle.amr_replay.proofs.Positions.{item}
 use Rattle.amreplay.specs.Commands.Replies.{Incident, Reply, incident_of, numbered_lines, passing_text, reply_to_move}
 use Rattle.amreplay.specs.Commands.Answer.{left, Moves}
 use Rattle.amreplay.specs.declared.commands.answer.Answer.{Answer}
@@ -25,42 +26,24 @@ numbered_none n [] = refl
 numbered_none n (e ∷ es) = refl
 
 -- one more line
-numbered_push : (n : ℕ) (es : List Event) (os : List Outcome) (e : Event) (o : Outcome) → length es ≡ length os
-    → numbered_lines n (es ++ e ∷ []) (os ++ o ∷ []) ≡ numbered_lines n es os ++ event_lines (n + length os) e o
-numbered_push n [] [] e o same = append-nil _ ∙ ap (λ k. event_lines k e o) (omega arith)
-numbered_push n [] (p ∷ os) e o same = absurd (omega (arith, same))
-numbered_push n (d ∷ es) [] e o same = absurd (omega (arith, same))
-numbered_push n (d ∷ es) (p ∷ os) e o same =
-    let here : n + 1 + length os ≡ n + length (p ∷ os) = omega arith in
-    ap (λ t. event_lines n d p ++ t) (numbered_push (n + 1) es os e o (omega (arith, same)) ∙ ap (λ k. numbered_lines (n + 1) es os ++ event_lines k e o) here)
-    ∙ sym (append_assoc (event_lines n d p) (numbered_lines (n + 1) es os) _)
-
--- as many events as outcomes are enough
-numbered_enough : (n : ℕ) (es : List Event) (os : List Outcome) → length os ≤ length es → numbered_lines n (take (length os) es) os ≡ numbered_lines n es os
-numbered_enough n [] [] enough = refl
-numbered_enough n (e ∷ es) [] enough = refl
-numbered_enough n [] (o ∷ os) enough = absurd (omega (arith, enough))
-numbered_enough n (e ∷ es) (o ∷ os) enough = ap (λ t. event_lines n e o ++ t) (numbered_enough (n + 1) es os (omega (arith, enough)))
+numbered_step : (n i m : ℕ) (es : List Event) (os : List code.Outcome) (e : Event) (o : code.Outcome) → m ≡ n + i → slice_get es i ≡ Some e → slice_get os i ≡ Some o
+    → numbered_lines n es (map outcome_view (take (suc i) os)) ≡ numbered_lines n es (map outcome_view (take i os)) ++ event_lines m e (outcome_view o)
+numbered_step n zero m (d ∷ es) (p ∷ os) e o number at is =
+    let same_event : d ≡ e = cc in
+    let same_outcome : p ≡ o = cc in
+    let same_number : n ≡ m = omega (arith, number) in
+    ap (λ l. event_lines n d (outcome_view p) ++ l) (numbered_none (n + 1) es)
+    ∙ append-nil (event_lines n d (outcome_view p))
+    ∙ (λ k. event_lines (same_number k) (same_event k) (outcome_view (same_outcome k)))
+numbered_step n (suc i) m (d ∷ es) (p ∷ os) e o number at is =
+    ap (λ l. event_lines n d (outcome_view p) ++ l) (numbered_step (n + 1) i m es os e o (omega (arith, number)) at is)
+    ∙ sym (append_assoc (event_lines n d (outcome_view p)) _ _)
+numbered_step n i m [] os e o number at is = absurd (cc)
+numbered_step n i m es [] e o number at is = absurd (cc)
 
 pub numbered_more : (n i : ℕ) (es : List Event) (os : List code.Outcome) (e : Event) (o : code.Outcome) → i < length os → o ≡ get_or os i o → slice_get es i ≡ Some e
     → numbered_lines n es (map outcome_view (take (i + 1) os)) ≡ numbered_lines n es (map outcome_view (take i os)) ++ event_lines (n + i) e (outcome_view o)
-numbered_more n i es os e o h is at =
-    let within : i < length es = slice_get_within es i e at in
-    let views = map outcome_view (take i os) in
-    let front : take (i + 1) os ≡ take i os ++ o ∷ [] = take_more os i o h ∙ ap (λ x. take i os ++ x ∷ []) (sym is) in
-    let counted : length views ≡ i = omega (arith, length-map (take i os) outcome_view, length-take i os) in
-    let grown : map outcome_view (take (i + 1) os) ≡ views ++ outcome_view o ∷ [] = ap (map outcome_view) front ∙ map-append outcome_view (take i os) (o ∷ []) in
-    let all : length (views ++ outcome_view o ∷ []) ≡ i + 1 = omega (arith, counted, length-append views (outcome_view o ∷ [])) in
-    let events : take (i + 1) es ≡ take i es ++ e ∷ [] = take_more es i e within ∙ ap (λ x. take i es ++ x ∷ []) (get_or_from_slice_get es i e e at) in
-    let same : length (take i es) ≡ length views = omega (arith, counted, length-take i es) in
-    ap (numbered_lines n es) grown
-    ∙ sym (numbered_enough n es (views ++ outcome_view o ∷ []) (omega (arith, all)))
-    ∙ ap (λ k. numbered_lines n (take k es) (views ++ outcome_view o ∷ [])) all
-    ∙ ap (λ l. numbered_lines n l (views ++ outcome_view o ∷ [])) events
-    ∙ numbered_push n (take i es) views e (outcome_view o) same
-    ∙ ap (λ k. numbered_lines n (take i es) views ++ event_lines (n + k) e (outcome_view o)) counted
-    ∙ ap (λ k. numbered_lines n (take k es) views ++ event_lines (n + i) e (outcome_view o)) (sym counted)
-    ∙ ap (λ t. t ++ event_lines (n + i) e (outcome_view o)) (numbered_enough n es views (omega (arith, counted)))
+numbered_more n i es os e o h is at = rw (add-one i) (numbered_step n i (n + i) es os e o refl at (slice_get_read os (length os) i o refl h is))
 
 length-outcomes_of : (s : State) (es : List Event) → length (outcomes_of s es) ≡ length es
 length-outcomes_of s [] = refl
@@ -89,9 +72,6 @@ unfolding reply_to_move
 moved_built i n to word os text is built =
     ap (λ os. let r : Reply = record { cursor = to; text = passing_text i.events n word to os } in r) (sym is)
     ∙ ap (λ t. let r : Reply = record { cursor = to; text = t } in r) (sym built)
-
-item : (es : List Event) (n : ℕ) → n < length es → (e : Event) × (slice_get es n ≡ Some e)
-item es n h = ⊎_elim (λ w. (w.0, w.2)) (λ w. absurd (omega (arith, w.0))) (slice_get_cases es n).1
 
 one_passed : (c : Config) (es : List Event) (n : ℕ) (e : Event) (o : code.Outcome) → slice_get es n ≡ Some e → outcome_view o ≡ outcome_of (state_at c es n) e
     → map outcome_view (o ∷ []) ≡ outcomes_passed c es n (n + 1)

@@ -1,37 +1,33 @@
--- A session, one byte at a time.
-use Rattle.std.proofs.Common.{◌≡◌, ◌≢◌, ℕ, List, [], ◌∷◌, ◌++◌, map, flat_map, refl, sym, ap, ◌∙◌, subst, append_assoc, append-nil, Ok, Err, Option, Result, MatchResult, IfOk, IfErr}
+-- A session, one byte at a time, and its last line.
+use Rattle.std.proofs.Common.{◌≡◌, ◌≢◌, ℕ, List, [], ◌∷◌, ◌++◌, map, flat_map, take, refl, sym, ap, ◌∙◌, subst, append_assoc, append-nil, Option}
 use Rattle.std.specs.List.{All}
-use Rattle.std.proofs.lemmas.List.Elements.{All-append, All-cons, All-nil}
+use Rattle.std.proofs.lemmas.List.{map_push}
+use Rattle.std.proofs.lemmas.List.Elements.{All-push, All-nil}
 use Rattle.std.proofs.lemmas.Grind.{flat_map-append}
-use Rattle.std.proofs.lemmas.Result.{MatchResult-weaker, MatchResult-at_ok, MatchResult-at_err, MatchResult-from_both}
-use Rattle.std.specs.Io.KnownBytes.{Appends, Keeps}
-use Rattle.std.proofs.KnownBytes.{Appends-nil, Appends-trans, Appends-kept}
+use Rattle.std.specs.Io.KnownBytes.{Appends, Consumes}
+use Rattle.std.proofs.KnownBytes.{Appends-nil, Appends-trans, Consumes-trans}
+use Rattle.amreplay.specs.Lines.CheckedWriter.{AppendsBeginning}
 use Rattle.amreplay.specs.Commands.Replies.{Incident}
 use Rattle.amreplay.specs.Commands.Lines.{with_feed, IsOneLine}
-use Rattle.amreplay.specs.Commands.Talk.{AnsweredLine, reply, MayBe, after, out, AllMayBe, Answers, Progress, StopsShort, StopsInside}
+use Rattle.amreplay.specs.Commands.Talk.{LineOutcome, AnsweredLine, reply, MayBe, after, out, AllMayBe, Progress, StopsShort, StopsInside}
+use Rattle.amreplay.specs.Commands.Converse.{Printed}
+use Rattle.amreplay.proofs.LinesLemmas.Parts.{AppendsBeginning-after}
 
 abbrev line_of : AnsweredLine → List ℕ
 line_of h = h.line
 
-pub after-append : (incident : Incident) (cursor : ℕ) (hs : List AnsweredLine) (h : AnsweredLine) → after incident cursor (hs ++ h ∷ []) ≡ (reply incident (after incident cursor hs) h.line_outcome).cursor
+after-append : (incident : Incident) (cursor : ℕ) (hs : List AnsweredLine) (h : AnsweredLine) → after incident cursor (hs ++ h ∷ []) ≡ (reply incident (after incident cursor hs) h.line_outcome).cursor
 after-append incident cursor [] h = refl
 after-append incident cursor (g ∷ hs) h = after-append incident ((reply incident cursor g.line_outcome).cursor) hs h
 
-pub out-append : (incident : Incident) (cursor : ℕ) (hs : List AnsweredLine) (h : AnsweredLine) → out incident cursor (hs ++ h ∷ []) ≡ out incident cursor hs ++ (reply incident (after incident cursor hs) h.line_outcome).text
+out-append : (incident : Incident) (cursor : ℕ) (hs : List AnsweredLine) (h : AnsweredLine) → out incident cursor (hs ++ h ∷ []) ≡ out incident cursor hs ++ (reply incident (after incident cursor hs) h.line_outcome).text
 out-append incident cursor [] h = append-nil _
 out-append incident cursor (g ∷ hs) h =
     ap (λ t. (reply incident cursor g.line_outcome).text ++ t) (out-append incident ((reply incident cursor g.line_outcome).cursor) hs h) ∙ sym (append_assoc ((reply incident cursor g.line_outcome).text) _ _)
 
-pub AllMayBe-append : (incident : Incident) (cursor : ℕ) (hs : List AnsweredLine) (h : AnsweredLine) → AllMayBe incident cursor hs → MayBe incident (after incident cursor hs) h.line h.line_outcome → AllMayBe incident cursor (hs ++ h ∷ [])
+AllMayBe-append : (incident : Incident) (cursor : ℕ) (hs : List AnsweredLine) (h : AnsweredLine) → AllMayBe incident cursor hs → MayBe incident (after incident cursor hs) h.line h.line_outcome → AllMayBe incident cursor (hs ++ h ∷ [])
 AllMayBe-append incident cursor [] h p q = (q, tt)
 AllMayBe-append incident cursor (g ∷ hs) h p q = (p.0, AllMayBe-append incident ((reply incident cursor g.line_outcome).cursor) hs h p.1 q)
-
-lines-append : (hs : List AnsweredLine) (h : AnsweredLine) → map line_of (hs ++ h ∷ []) ≡ map line_of hs ++ h.line ∷ []
-lines-append [] h = refl
-lines-append (g ∷ hs) h = ap (λ l. g.line ∷ l) (lines-append hs h)
-
-All-push : {X : Type 0} (P : X → Type 0) (xs : List X) (x : X) → All P xs → P x → All P (xs ++ x ∷ [])
-All-push P xs x p q = All-append P xs (x ∷ []) p (All-cons P x [] q (All-nil P))
 
 -- the line feed makes the rest a whole line
 joined : (bytes rest : List ℕ) (lines : List (List ℕ)) → bytes ≡ flat_map with_feed lines ++ rest → bytes ++ 10 ∷ [] ≡ flat_map with_feed (lines ++ rest ∷ []) ++ []
@@ -58,42 +54,52 @@ Progress-more incident start now bytes cursor rest b ne t =
       written = t.written;
     }
 
--- a line that was answered
-pub Progress-ended : {E : Type 0} (incident : Incident) (start mid now : Option (List ℕ)) (bytes : List ℕ) (cursor cursor' : ℕ) (rest : List ℕ) (r : Result Unit E)
-    → Progress incident start mid bytes cursor rest → Answers incident cursor cursor' rest mid now r
-    → MatchResult r (λ _. Progress incident start now (bytes ++ 10 ∷ []) cursor' []) (λ _. StopsShort incident start now bytes [])
-Progress-ended incident start mid now bytes cursor cursor' rest r t a =
-    let h : AnsweredLine = record { line = rest; line_outcome = a.line_outcome } in
-    let position = t.position in
-    let may : AllMayBe incident 0 (t.heard ++ h ∷ []) = AllMayBe-append incident 0 t.heard h t.may_be (subst (λ c. MayBe incident c rest a.line_outcome) position a.may_be) in
-    let text : (reply incident cursor h.line_outcome).text ≡ (reply incident (after incident 0 t.heard) h.line_outcome).text = ap (λ c. (reply incident c h.line_outcome).text) position in
-    let all : out incident 0 (t.heard ++ h ∷ []) ≡ out incident 0 t.heard ++ (reply incident cursor h.line_outcome).text = out-append incident 0 t.heard h ∙ ap (λ l. out incident 0 t.heard ++ l) (sym text) in
-    MatchResult-weaker r a.did
-    (λ _ d. record {
-      heard = t.heard ++ h ∷ [];
-      cut = record {
-        whole = joined bytes rest (map line_of t.heard) t.cut.whole ∙ ap (λ l. flat_map with_feed l ++ []) (sym (lines-append t.heard h));
-        each = subst (All IsOneLine) (sym (lines-append t.heard h)) (All-push IsOneLine _ rest t.cut.each t.cut.last);
-        last = All-nil _;
-      };
-      may_be = may;
-      position = d.0 ∙ ap (λ c. (reply incident c h.line_outcome).cursor) position ∙ sym (after-append incident 0 t.heard h);
-      written = subst (Appends start now) (sym all) (Appends-trans start mid now _ _ t.written d.1);
-    })
-    (λ _ d. record {
-      heard = t.heard;
-      last = h;
-      whole = t.cut.whole ∙ ap (λ l. flat_map with_feed (map line_of t.heard) ++ l) (sym (append-nil rest));
-      each = t.cut.each;
-      one_line = t.cut.last;
-      may_be = may;
-      written = record {
-        written = out incident 0 t.heard ++ d.written;
-        unwritten = d.unwritten;
-        parts = all ∙ ap (λ l. out incident 0 t.heard ++ l) d.parts ∙ sym (append_assoc (out incident 0 t.heard) d.written d.unwritten);
-        appended = Appends-trans start mid now _ _ t.written d.appended;
-      };
-    })
+module _ (incident : Incident) (start mid now : Option (List ℕ)) (bytes : List ℕ) (cursor : ℕ) (rest : List ℕ) (line_outcome : LineOutcome)
+    (t : Progress incident start mid bytes cursor rest) (may_be : MayBe incident cursor rest line_outcome) where
+  abbrev told : AnsweredLine
+  told = record { line = rest; line_outcome = line_outcome }
+
+  abbrev text : List ℕ
+  text = (reply incident cursor line_outcome).text
+
+  all_may_be : AllMayBe incident 0 (t.heard ++ told ∷ [])
+  all_may_be = AllMayBe-append incident 0 t.heard told t.may_be (subst (λ c. MayBe incident c rest line_outcome) t.position may_be)
+
+  all_out : out incident 0 (t.heard ++ told ∷ []) ≡ out incident 0 t.heard ++ text
+  all_out = out-append incident 0 t.heard told ∙ ap (λ c. out incident 0 t.heard ++ (reply incident c line_outcome).text) (sym t.position)
+
+  all_written : Appends mid now text → Appends start now (out incident 0 (t.heard ++ told ∷ []))
+  all_written w = subst (Appends start now) (sym all_out) (Appends-trans start mid now _ _ t.written w)
+
+  -- a line that was answered, with its line feed
+  pub Progress-answered : (cursor' : ℕ) → (cursor' ≡ (reply incident cursor line_outcome).cursor) × Appends mid now text → Progress incident start now (bytes ++ 10 ∷ []) cursor' []
+  Progress-answered cursor' d = record {
+    heard = t.heard ++ told ∷ [];
+    cut = record {
+      whole = joined bytes rest (map line_of t.heard) t.cut.whole ∙ ap (λ l. flat_map with_feed l ++ []) (sym (map_push line_of t.heard told));
+      each = subst (All IsOneLine) (sym (map_push line_of t.heard told)) (All-push IsOneLine _ rest t.cut.each t.cut.last);
+      last = All-nil _;
+    };
+    may_be = all_may_be;
+    position = d.0 ∙ ap (λ c. (reply incident c line_outcome).cursor) t.position ∙ sym (after-append incident 0 t.heard told);
+    written = all_written d.1;
+  }
+
+  -- the last line, which has no line feed
+  pub Printed-answered : Appends mid now text → Printed incident start now bytes
+  Printed-answered w = record { heard = t.heard; last = told; cut = t.cut; may_be = all_may_be; written = all_written w }
+
+  -- the writer failed at the answer to a line
+  pub StopsShort-answered : AppendsBeginning mid now text → StopsShort incident start now bytes []
+  StopsShort-answered w = record {
+    heard = t.heard;
+    last = told;
+    whole = t.cut.whole ∙ ap (λ l. flat_map with_feed (map line_of t.heard) ++ l) (sym (append-nil rest));
+    each = t.cut.each;
+    one_line = t.cut.last;
+    may_be = all_may_be;
+    written = AppendsBeginning-after start mid now _ text [] _ t.written w (all_out ∙ ap (λ l. out incident 0 t.heard ++ l) (sym (append-nil text)));
+  }
 
 -- more bytes than those up to the line
 pub StopsShort-more : (incident : Incident) (start now : Option (List ℕ)) (bytes after_line more : List ℕ)
@@ -109,42 +115,10 @@ StopsShort-more incident start now bytes after_line more s =
       written = s.written;
     }
 
-IfOk-all : {X E : Type 0} (r : Result X E) (P : X → Type 0) → ((x : X) → P x) → IfOk r P
-IfOk-all (Ok x) P h = h x
-IfOk-all (Err e) P h = tt
-
-IfErr-all : {X E : Type 0} (r : Result X E) (P : E → Type 0) → ((e : E) → P e) → IfErr r P
-IfErr-all (Ok x) P h = tt
-IfErr-all (Err e) P h = h e
-
--- an answer whose writer was flushed, whether that failed or not
-pub Answers-flushed : {E F : Type 0} (incident : Incident) (cursor cursor' : ℕ) (line : List ℕ) (old mid now : Option (List ℕ)) (r : Result Unit E) (x : Unit) (flushed : Result Unit F)
-    → r ≡ Ok x → Keeps mid now → Answers incident cursor cursor' line old mid r → Answers incident cursor cursor' line old now flushed
-Answers-flushed incident cursor cursor' line old mid now r x flushed e k a =
-    let text = (reply incident cursor a.line_outcome).text in
-    let did = MatchResult-at_ok _ _ x e a.did in
-    let all : Appends old now text = Appends-kept old mid now text did.1 k in
-    record {
-      line_outcome = a.line_outcome;
-      may_be = a.may_be;
-      did = MatchResult-from_both flushed _ _
-          (IfOk-all flushed _ (λ _. (did.0, all)))
-          (IfErr-all flushed _ (λ _. record { written = text; unwritten = []; parts = sym (append-nil text); appended = all }));
-    }
-
--- the line feed came, and the line was answered
-pub Progress-line_ok : {E : Type 0} (incident : Incident) (start mid now : Option (List ℕ)) (bytes : List ℕ) (cursor cursor' : ℕ) (rest : List ℕ) (r : Result Unit E) (x : Unit) (b : ℕ)
-    → b ≡ 10 → r ≡ Ok x → Progress incident start mid bytes cursor rest → Answers incident cursor cursor' rest mid now r → Progress incident start now (bytes ++ b ∷ []) cursor' []
-Progress-line_ok incident start mid now bytes cursor cursor' rest r x b feed e t a =
-    subst (λ l. Progress incident start now (bytes ++ l ∷ []) cursor' []) (sym feed) (MatchResult-at_ok _ _ x e (Progress-ended incident start mid now bytes cursor cursor' rest r t a))
-
--- the line feed came, and the writer failed
-pub Progress-line_err : {E : Type 0} (incident : Incident) (start mid now : Option (List ℕ)) (bytes : List ℕ) (cursor cursor' : ℕ) (rest : List ℕ) (r : Result Unit E) (x : E) (b : ℕ)
-    → b ≡ 10 → r ≡ Err x → Progress incident start mid bytes cursor rest → Answers incident cursor cursor' rest mid now r → StopsInside incident start now (bytes ++ b ∷ [])
-Progress-line_err incident start mid now bytes cursor cursor' rest r x b feed e t a =
-    subst (λ l. StopsInside incident start now (bytes ++ l ∷ [])) (sym feed)
-    ([], StopsShort-more incident start now bytes [] (10 ∷ []) (MatchResult-at_err _ _ x e (Progress-ended incident start mid now bytes cursor cursor' rest r t a)))
-
 -- bytes that come after those that were taken in
 pub StopsInside-more : (incident : Incident) (start now : Option (List ℕ)) (bytes more : List ℕ) → StopsInside incident start now bytes → StopsInside incident start now (bytes ++ more)
 StopsInside-more incident start now bytes more (tail, s) = (tail ++ more, StopsShort-more incident start now bytes (10 ∷ tail) more s)
+
+-- a read that gave no byte
+pub Consumes-nothing : (a b c : Option (List ℕ)) (bs chunk : List ℕ) (n : ℕ) → n ≡ 0 → Consumes a b bs → Consumes b c (take n chunk) → Consumes a c bs
+Consumes-nothing a b c bs chunk n e p q = subst (Consumes a c) (ap (λ k. bs ++ take k chunk) e ∙ append-nil bs) (Consumes-trans a b c bs (take n chunk) p q)

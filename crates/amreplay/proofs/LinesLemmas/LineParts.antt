@@ -4,31 +4,20 @@ use Rattle.std.specs.Fmt.{digits}
 use Rattle.json.specs.Print.{escape}
 use Rattle.serde_json.specs.Written.{compact_text}
 use Rattle.serde_json.proofs.OnLiterals.{serde_json_on_literals}
-use Rattle.amreplay.specs.Lines.Printed.{moment_data, refused_event_line}
+use Rattle.amreplay.specs.Lines.Printed.{moment_data}
 use Rattle.amr_time.specs.Time.{Moment}
 use Rattle.amr_time.specs.MomentText.{moment_text}
 use Rattle.amreplay.specs.Lines.LastLines.{word_text, moves_line, cursor_line, position_line, refused_line}
 use Rattle.amreplay.proofs.LinesLemmas.MomentTexts.{moment_json}
 use Rattle.amreplay.proofs.LinesLemmas.ObjectTexts.{object_texts}
 use Rattle.amreplay.specs.declared.lines.word.Word.{Word}
-use Rattle.amreplay.specs.declared.lines.word.Word.TheVariants.{Step, Back, Seek, SeekTime, Trial, Explain, Alerts, Silences, Groups, Log, Transcript, Cursor, Unknown}
+use Rattle.amreplay.specs.declared.lines.word.Word.TheVariants.{Step}
 
 -- no word needs an escape
 escape_word : (word : Word) → escape (word_text word) ≡ word_text word
 unfolding serde_json_on_literals
 escape_word Step = refl
-escape_word Back = refl
-escape_word Seek = refl
-escape_word SeekTime = refl
-escape_word Trial = refl
-escape_word Explain = refl
-escape_word Alerts = refl
-escape_word Silences = refl
-escape_word Groups = refl
-escape_word Log = refl
-escape_word Transcript = refl
-escape_word Cursor = refl
-escape_word Unknown = refl
+escape_word _ = refl
 
 pub cursor_line-parts : (word : Word) (cursor : ℕ)
     → codes "{\"command\":\"" ++ (word_text word ++ (codes "\",\"cursor\":" ++ (decimal cursor ++ codes "}\n"))) ≡ cursor_line word cursor
@@ -57,8 +46,3 @@ pub refused_line-parts : (word : Word) (cursor reason : ℕ)
     → codes "{\"command\":\"" ++ (word_text word ++ (codes "\",\"cursor\":" ++ (decimal cursor ++ (codes ",\"refused\":" ++ (decimal reason ++ codes "}\n"))))) ≡ refused_line word cursor reason
 unfolding serde_json_on_literals
 refused_line-parts word cursor reason = simp (append_assoc, escape_word)
-
-pub refused_event_line-parts : (event reason : ℕ)
-    → codes "{\"event\":" ++ (decimal event ++ (codes ",\"reason\":" ++ (decimal reason ++ codes "}\n"))) ≡ refused_event_line event reason
-unfolding serde_json_on_literals
-refused_event_line-parts event reason = simp append_assoc

@@ -19,21 +19,18 @@ plain (b ∷ bs) h = λ i. escape_byte_plain b (λ e. omega (arith, h.0)) (λ e.
 of_digit : (n : ℕ) → IsOfMoment (digit n)
 of_digit n = (omega arith, omega arith)
 
-of_mark : (b : ℕ) → 45 ≤ b → b ≤ 90 → IsOfMoment b
-of_mark b l h = (l, h)
-
 tail_plain : (n : ℕ) (zero : Bool) → AllByRecursion IsOfMoment (fraction_text (cond zero [] (nine_digits n)) ++ 90 ∷ [])
-tail_plain n true = (of_mark 90 (omega arith) (omega arith), tt)
+tail_plain n true = ((omega arith, omega arith), tt)
 tail_plain n false =
     let d = of_digit in
-    (of_mark 46 (omega arith) (omega arith), (d _, (d _, (d _, (d _, (d _, (d _, (d _, (d _, (d _, (of_mark 90 (omega arith) (omega arith), tt)))))))))))
+    ((omega arith, omega arith), (d _, (d _, (d _, (d _, (d _, (d _, (d _, (d _, (d _, ((omega arith, omega arith), tt)))))))))))
 
 all_plain : (m : Moment) → AllByRecursion IsOfMoment (moment_text m)
 all_plain m =
     let d = of_digit in
-    let dash = of_mark 45 (omega arith) (omega arith) in
-    let colon = of_mark 58 (omega arith) (omega arith) in
-    let t = of_mark 84 (omega arith) (omega arith) in
+    let dash : IsOfMoment 45 = (omega arith, omega arith) in
+    let colon : IsOfMoment 58 = (omega arith, omega arith) in
+    let t : IsOfMoment 84 = (omega arith, omega arith) in
     (d _, (d _, (d _, (d _, (dash, (d _, (d _, (dash, (d _, (d _, (t, (d _, (d _, (colon, (d _, (d _, (colon, (d _, (d _, tail_plain (m % second) (eqb (m % second) 0))))))))))))))))))))
 
 pub moment_json : (m : Moment) → compact_text (moment_data m) ≡ 34 ∷ (moment_text m ++ 34 ∷ [])

@@ -1,6 +1,7 @@
 -- The text of a label set whose names and values need no escape is that of its object.
 use Rattle.std.proofs.Common.{◌≡◌, Bool, true, false, T, List, [], ◌∷◌, ◌++◌, codes, flat_map, Some, None, if◌then◌else◌, refl, sym, ap, ◌∙◌, append_assoc}
 use Rattle.std.specs.Option.{unwrap_or}
+use Rattle.std.proofs.lemmas.Bool.{and_parts}
 use Rattle.std.specs.FinMap.{is_sorted}
 use Rattle.json.specs.Print.{quoted}
 use Rattle.serde_json.specs.Written.{compact_text, members_text}
@@ -8,7 +9,7 @@ use Rattle.amr_labels.specs.Map as map
 use Rattle.amr_labels.specs.Labels.{Text, LabelSet, text_cmp}
 use Rattle.amr_labels.specs.ObjectText as plain
 use Rattle.amreplay.specs.Lines.Printed.{texts_data, labels_data}
-use Rattle.amreplay.proofs.LinesLemmas.Plain.{both, own_escape}
+use Rattle.amreplay.proofs.LinesLemmas.Plain.{own_escape}
 use Rattle.amreplay.proofs.LinesLemmas.Pushed.{texts_text, member_text, first_member}
 use Rattle.amreplay.proofs.LinesLemmas.Members.{in_order}
 
@@ -17,7 +18,7 @@ quoted_as_it_is text h = ap (λ t. 34 ∷ (t ++ 34 ∷ [])) (sym (own_escape tru
 
 member_as_it_is : (label : Text × Text) → plain.is_plain_label label ≡ true → plain.member_text label ≡ member_text label
 member_as_it_is label h =
-    let (name, value) = both (plain.is_plain_text label.0) (plain.is_plain_text label.1) h in
+    let (name, value) = and_parts (plain.is_plain_text label.0) (plain.is_plain_text label.1) h in
     λ i. quoted_as_it_is label.0 name i ++ 58 ∷ quoted_as_it_is label.1 value i
 
 -- the members after the first, each after a comma
@@ -26,7 +27,7 @@ other_members : (es : List (Text × Text)) → plain.are_plain es ≡ true
 unfolding in_order
 other_members [] h = refl
 other_members (e ∷ es) h =
-    let (first, others) = both (plain.is_plain_label e) (plain.are_plain es) h in
+    let (first, others) = and_parts (plain.is_plain_label e) (plain.are_plain es) h in
     append_assoc (codes "," ++ plain.member_text e) (flat_map (λ label. codes "," ++ plain.member_text label) es) (codes "}")
     ∙ (λ i. (44 ∷ member_as_it_is e first i) ++ other_members es others i)
     ∙ sym (first_member true e es)
@@ -35,7 +36,7 @@ all_members : (es : List (Text × Text)) → plain.are_plain es ≡ true → pla
 unfolding in_order
 all_members [] h = refl
 all_members (e ∷ es) h =
-    let (first, others) = both (plain.is_plain_label e) (plain.are_plain es) h in
+    let (first, others) = and_parts (plain.is_plain_label e) (plain.are_plain es) h in
     append_assoc (plain.member_text e) (flat_map (λ label. codes "," ++ plain.member_text label) es) (codes "}")
     ∙ (λ i. member_as_it_is e first i ++ other_members es others i)
     ∙ sym (first_member false e es)

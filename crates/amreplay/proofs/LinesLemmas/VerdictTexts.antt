@@ -6,7 +6,7 @@ use Rattle.serde_json.specs.Data.{Data, string, object}
 use Rattle.serde_json.specs.Written.{compact_text}
 use Rattle.amr_labels.specs.Labels.{Text}
 use Rattle.amr_engine.specs.declared.verdict.Finding.{Finding}
-use Rattle.amr_engine.specs.declared.verdict.Finding.TheVariants.{Waiting, Inhibited, OutsideActive, TimeMuted, Silenced, Nowhere, Told, Due}
+use Rattle.amr_engine.specs.declared.verdict.Finding.TheVariants.{Inhibited}
 use Rattle.amr_engine.specs.declared.verdict.Verdict.TheVariants.{AtRoute}
 use Rattle.amreplay.specs.Lines.Printed.{object_of, number_data, labels_data}
 use Rattle.amreplay.specs.Lines.Verdicts.{finding_name, integration_members, members_before, members_after, with_commas, verdict_data}
@@ -29,19 +29,6 @@ pub at_route_text : (route : ℕ) (receiver : Text) (integration : Option (Text 
     ++ (with_commas (members_after finding)
     ++ ((codes "\"verdict\":" ++ quoted (finding_name finding)) ++ codes "}")))))) ≡ compact_text (verdict_data (AtRoute route receiver integration finding))
 unfolding verdict_data serde_json_on_literals
-at_route_text route receiver None (Waiting due) = simp append_assoc
-at_route_text route receiver None (Inhibited rule source) = inhibited_text route receiver None rule (labels_data source)
-at_route_text route receiver None OutsideActive = simp append_assoc
-at_route_text route receiver None TimeMuted = simp append_assoc
-at_route_text route receiver None (Silenced id) = simp append_assoc
-at_route_text route receiver None Nowhere = simp append_assoc
-at_route_text route receiver None (Told at) = simp append_assoc
-at_route_text route receiver None (Due at) = simp append_assoc
-at_route_text route receiver (Some integration) (Waiting due) = simp append_assoc
-at_route_text route receiver (Some integration) (Inhibited rule source) = inhibited_text route receiver (Some integration) rule (labels_data source)
-at_route_text route receiver (Some integration) OutsideActive = simp append_assoc
-at_route_text route receiver (Some integration) TimeMuted = simp append_assoc
-at_route_text route receiver (Some integration) (Silenced id) = simp append_assoc
-at_route_text route receiver (Some integration) Nowhere = simp append_assoc
-at_route_text route receiver (Some integration) (Told at) = simp append_assoc
-at_route_text route receiver (Some integration) (Due at) = simp append_assoc
+at_route_text route receiver integration (Inhibited rule source) = inhibited_text route receiver integration rule (labels_data source)
+at_route_text route receiver None finding = simp append_assoc
+at_route_text route receiver (Some integration) finding = simp append_assoc

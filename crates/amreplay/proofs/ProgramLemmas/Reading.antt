@@ -1,5 +1,5 @@
 -- What is read of a file stands for all of it.
-use Rattle.std.proofs.Common.{◌≡◌, ℕ, ◌<◌, true, List, [], ◌++◌, length, take, Option, Some, None, Result, refl, sym, ap, ◌∙◌, subst, arith, append-nil, length-append}
+use Rattle.std.proofs.Common.{◌≡◌, ℕ, ◌<◌, true, List, [], ◌++◌, length, take, Option, Some, None, Result, sym, ap, ◌∙◌, subst, arith, append-nil, length-append}
 use Rattle.std.specs.Prelude.{nat_lt}
 use Rattle.std.specs.Io.KnownBytes.{Consumes, IsAtEnd}
 use Rattle.std.proofs.lemmas.Bool.{lt-ltb}
@@ -7,13 +7,6 @@ use Rattle.amr_config.specs.Stated.Config as config
 use Rattle.amr_config.specs.declared.read.error.Refusal.{Refusal}
 use Rattle.amreplay.specs.Program.Files.{longest_config, ConfigFileIs}
 use Rattle.amreplay.specs.Program.Input.{StandFor, MayHold}
-
--- what follows doesn't count
-stand_cut : {A : Type 0} (Is : List ℕ → A → Type 0) (old new : Option (List ℕ)) (bytes : List ℕ) → Consumes old new bytes
-    → ((more : List ℕ) (answer : A) → Is bytes answer → Is (bytes ++ more) answer) → StandFor Is old bytes
-stand_cut Is None new bytes consumed cut = tt
-stand_cut Is (Some all) None bytes consumed cut = absurd consumed
-stand_cut Is (Some all) (Some left) bytes consumed cut = λ answer is. subst (λ l. Is l answer) (sym consumed) (cut left answer is)
 
 too_long : (bytes more : List ℕ) (judged : Result config.Config Refusal) → longest_config < length bytes → ConfigFileIs bytes judged → ConfigFileIs (bytes ++ more) judged
 unfolding ConfigFileIs
@@ -23,8 +16,11 @@ too_long bytes more judged long is =
     let longer : nat_lt longest_config (length (bytes ++ more)) ≡ true = lt-ltb longest_config (length (bytes ++ more)) all in
     rw longer (rw short at is)
 
+-- what follows doesn't count
 pub config_cut : (old new : Option (List ℕ)) (bytes : List ℕ) → Consumes old new bytes → longest_config < length bytes → StandFor ConfigFileIs old bytes
-config_cut old new bytes consumed long = stand_cut ConfigFileIs old new bytes consumed (λ more judged. too_long bytes more judged long)
+config_cut None new bytes consumed long = tt
+config_cut (Some all) None bytes consumed long = absurd consumed
+config_cut (Some all) (Some left) bytes consumed long = λ judged is. subst (λ l. ConfigFileIs l judged) (sym consumed) (too_long bytes left judged long is)
 
 -- ---- a script
 
@@ -41,8 +37,3 @@ pub whole_of : (old new : Option (List ℕ)) (bytes : List ℕ) → Consumes old
 whole_of None new bytes consumed = ([], tt)
 whole_of (Some all) None bytes consumed = absurd consumed
 whole_of (Some all) (Some left) bytes consumed = (left, consumed)
-
--- a source has some bytes
-pub some_whole : (source : Option (List ℕ)) → (all : List ℕ) × MayHold source all
-some_whole None = ([], tt)
-some_whole (Some all) = (all, refl)

@@ -1,7 +1,7 @@
-use Rattle.std.proofs.Common.{refl, inl, inr, ◌∙◌}
+use Rattle.std.proofs.Common.{◌++◌, inl, inr, ◌∙◌}
 use Rattle.std.proofs.lemmas.Result.{err_from_is_err_and}
-use Rattle.std.proofs.KnownBytes.{Consumes-kept}
-use Rattle.amreplay.proofs.CommandsLemmas.Printing.{Consumes-nothing, Stands-heard, StopsInside-heard}
+use Rattle.std.proofs.KnownBytes.{Consumes-kept, Consumes-trans}
+use Rattle.amreplay.proofs.CommandsLemmas.Talks.{Consumes-nothing}
 use Rattle.amreplay.proofs.commands.conversation.take_turn.Goals as goal
 
 pub returns-in_err-n-clause-turned : goal.returns-in_err-n-clause-turned
@@ -16,28 +16,31 @@ returns-in_err-n-clause-turned g c =
 pub returns-in_err-finish-clause-turned : goal.returns-in_err-finish-clause-turned
 returns-in_err-finish-clause-turned g c =
     let p = err_from_is_err_and c.from_residual-in_err-finish.result c.from_residual-in_err-finish.ensures.1 in
-    let read = c.in_ok-n.ensures.read in
     rw (p.1, p.2) (λ source start bytes consumed stands. (
       bytes,
-      Consumes-nothing _ _ _ bytes _ _ c.if-n-eq0.true consumed read.1,
+      Consumes-nothing _ _ _ bytes _ _ c.if-n-eq0.true consumed c.in_ok-n.ensures.read.1,
       inr (c.in_err-finish.ensures.printed start bytes stands),
     ))
 
 pub returns-then-n-eq0-clause-turned : goal.returns-then-n-eq0-clause-turned
-returns-then-n-eq0-clause-turned g c = λ source start bytes consumed stands.
-    let read = c.in_ok-n.ensures.read in (
-      bytes,
-      Consumes-nothing _ _ _ bytes _ _ c.if-n-eq0.true consumed read.1,
-      (read.2 c.if-n-eq0.true, c.in_ok-finish.ensures.printed start bytes stands),
-    )
+returns-then-n-eq0-clause-turned g c = λ source start bytes consumed stands. (
+  bytes,
+  Consumes-nothing _ _ _ bytes _ _ c.if-n-eq0.true consumed c.in_ok-n.ensures.read.1,
+  (c.in_ok-n.ensures.read.2 c.if-n-eq0.true, c.in_ok-finish.ensures.printed start bytes stands),
+)
 
 pub returns-in_err-take_bytes-clause-turned : goal.returns-in_err-take_bytes-clause-turned
 returns-in_err-take_bytes-clause-turned g c =
     let p = err_from_is_err_and c.from_residual-in_err-take_bytes.result c.from_residual-in_err-take_bytes.ensures.1 in
-    rw (p.1, p.2) (λ source start bytes consumed stands.
-    let (bytes', consumed', stops) = StopsInside-heard _ source _ _ start _ _ bytes _ _ _ _ c.take_bytes.result _ _ _ refl c.take_bytes.ensures.heard c.in_err-take_bytes.was c.in_ok-n.ensures.read.1 consumed stands in
-    (bytes', consumed', inl stops))
+    rw (p.1, p.2) (λ source start bytes consumed stands. (
+      bytes ++ _,
+      Consumes-trans _ _ _ bytes _ consumed c.in_ok-n.ensures.read.1,
+      inl (c.in_err-take_bytes.ensures.heard start bytes stands.0 stands.1 stands.2),
+    ))
 
 pub returns-clause-turned : goal.returns-clause-turned
-returns-clause-turned g c = λ source start bytes consumed stands.
-    Stands-heard _ source _ _ start _ _ bytes _ _ _ _ c.take_bytes.result _ _ _ refl c.take_bytes.ensures.heard c.in_ok-take_bytes.was c.in_ok-n.ensures.read.1 consumed stands
+returns-clause-turned g c = λ source start bytes consumed stands. (
+  bytes ++ _,
+  Consumes-trans _ _ _ bytes _ consumed c.in_ok-n.ensures.read.1,
+  c.in_ok-take_bytes.ensures.heard start bytes stands.0 stands.1 stands.2,
+)

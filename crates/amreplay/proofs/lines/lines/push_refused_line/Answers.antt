@@ -1,5 +1,8 @@
-use Rattle.amreplay.proofs.LinesLemmas.LineParts.{refused_event_line-parts}
+use Rattle.std.proofs.Common.{append_assoc}
+use Rattle.std.proofs.lemmas.Result.{IfOk-equal}
+use Rattle.amreplay.proofs.LinesLemmas.ObjectTexts.{object_texts}
 use Rattle.amreplay.proofs.lines.lines.push_refused_line.Goals as goal
 
 pub returns : goal.returns
-returns c = rw (← refused_event_line-parts c.args.event c.args.reason) c.write.ensures.bytes
+unfolding object_texts
+returns c = IfOk-equal c.write.result _ _ _ c.write.ensures.bytes (simp append_assoc)
