@@ -2,6 +2,8 @@
 //! routes, alerts of a notification.
 ghost use Rattle.std.specs.Prelude.{◌≡◌, ◌==◌, List, [], ◌∷◌, ◌++◌, length, OnOk, OnErr};
 ghost use Rattle.std.specs.Cmp.Lexicographic as lists;
+ghost use Rattle.std.specs.Fn.{CalledAt};
+ghost use Rattle.std.specs.List.Retain.{IsFiltered};
 
 use crate::exact::Exact;
 use std::alloc::{AllocError, Global};
@@ -70,6 +72,14 @@ impl<T: Drop> Listing<T> {
     {
         self.items.push(item)?;
         Ok(())
+    }
+
+    /// Keeps the values that a test picks, in their order. It takes no memory.
+    pub fn retain<F: FnMut(&T) -> bool>(&mut self, test: F)
+        requires { F.IsAlwaysCallable test }
+        ensures { IsFiltered (CalledAt F.FnMut) test self.old self.new }
+    {
+        self.items.retain(test);
     }
 }
 

@@ -24,7 +24,7 @@ use Rattle.amr_rules.specs.Silences.{Silences}
 use Rattle.amr_rules.specs.SilencePeriods.{may_silence, period_of, silence_periods}
 use Rattle.amr_engine.specs.declared.indexes.cached_periods.CachedPeriods.{CachedPeriods}
 use Rattle.amr_engine.specs.declared.indexes.silence_change.SilenceChange.{SilenceChange}
-use Rattle.amr_engine.specs.Indexes.CachedSilences.{lists, periods_picked, PicksNone, is_below, is_above, ends_after, without_silence, with_period, with_silence_noted, period_from, change_of, may_concern, is_idle, passed_by, changed_ids, AreNoted, IsCached}
+use Rattle.amr_engine.specs.Indexes.CachedSilences.{periods_picked, PicksNone, is_below, is_above, ends_after, without_silence, with_period, with_silence_noted, period_from, change_of, may_concern, is_idle, passed_by, changed_ids, AreNoted, IsCached}
 use Rattle.amr_engine.proofs.IndexesLemmas.CachedSilences.{filter_both, filters_alike, filters_swap, id_at}
 use Rattle.amr_engine.proofs.Listed.{none_left}
 use Rattle.std.proofs.lemmas.Map.Views.{tells_apart}
@@ -266,9 +266,3 @@ left_out silences changes found after at cached le is =
           swap test found.periods ∙ ap (filter (ends_after at)) (cached.others test none) ∙ sym (swap test (silence_periods found.from found.labels silences))
           ∙ ap (periods_picked test) (later_periods at found.from found.labels silences le);
     })
-
--- ---- a list that has no period of the silence
-
-pub not_listed : (id : ℕ) (periods : List SilencePeriod) → lists periods id ≡ false → without_silence id periods ≡ periods
-not_listed id [] none = refl
-not_listed id (p ∷ ps) none = grind (arith, not_listed id ps)

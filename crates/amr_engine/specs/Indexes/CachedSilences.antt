@@ -1,6 +1,6 @@
 -- What the table of silences caches of label sets.
 use Rattle.std.specs.Prelude.{◌≡◌, ◌≢◌, ◌≤◌, ◌<◌, ℕ, Bool, false, not, List, ◌∷◌, ◌++◌, ◌+◌, length, map, drop, get_or, Option, Some, None, IfSome, if◌then◌else◌, nat_lt, ◌&&◌, ◌==◌, bit_or, IsTrue}
-use Rattle.std.specs.List.{All, filter, list_any, prefix_len}
+use Rattle.std.specs.List.{All, filter, prefix_len}
 use Rattle.std.specs.Ordering.{nat_cmp, eq_by_cmp, is_lt}
 use Rattle.amr_labels.specs.Map.{get}
 use Rattle.amr_labels.specs.Labels.{LabelSet}
@@ -13,10 +13,6 @@ use Rattle.amr_rules.specs.SilencePeriods.{may_silence, period_of, silence_perio
 use Rattle.amr_engine.specs.declared.indexes.cached_periods.CachedPeriods.{CachedPeriods}
 use Rattle.amr_engine.specs.declared.indexes.silence_change.SilenceChange.{SilenceChange}
 use Rattle.amr_engine.specs.declared.indexes.silence_table.Unexpired.{Unexpired}
-
--- the silence with this id has one of the periods
-abbrev pub lists : List SilencePeriod → ℕ → Bool
-lists periods id = list_any (λ period. eq_by_cmp nat_cmp id period.id) periods
 
 -- the periods of the silences that a test picks
 abbrev pub periods_picked : (ℕ → Bool) → List SilencePeriod → List SilencePeriod

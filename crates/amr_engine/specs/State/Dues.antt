@@ -56,10 +56,6 @@ due_cmp a b =
     ordering_then (nat_cmp a.moment b.moment) (ordering_then (nat_cmp (kind_rank a.kind) (kind_rank b.kind))
     (ordering_then (nat_cmp a.route b.route) (label_set_cmp a.labels b.labels)))
 
--- timers without their moments, by kind, route and labels
-abbrev pub rank_cmp : Due → Due → Ordering
-rank_cmp a b = ordering_then (nat_cmp (kind_rank a.kind) (kind_rank b.kind)) (ordering_then (nat_cmp a.route b.route) (label_set_cmp a.labels b.labels))
-
 pub due_cmp_total : IsTotalOrder due_cmp
 due_cmp_total =
     then_total (on_total (λ (due : Due). due.moment) nat_cmp_total) (then_total (on_total (λ (due : Due). kind_rank due.kind) nat_cmp_total)

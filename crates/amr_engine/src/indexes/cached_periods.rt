@@ -32,7 +32,7 @@ pub(crate) struct CachedPeriods {
     pub(crate) periods: Listing<SilencePeriod>,
 }
 
-ghost use Rattle.amr_engine.specs.Indexes.CachedSilences.{lists, is_below, is_above, ends_after, without_silence, with_period, with_silence_noted, period_from, changed_ids, may_concern, next_concern, passed_by, AreNoted, IsCached};
+ghost use Rattle.amr_engine.specs.Indexes.CachedSilences.{is_below, is_above, ends_after, without_silence, with_period, with_silence_noted, period_from, changed_ids, may_concern, next_concern, passed_by, AreNoted, IsCached};
 
 impl CachedPeriods {
     /// Takes in the changes of silences that it hasn't seen, so that the periods are those of the
@@ -59,7 +59,7 @@ impl CachedPeriods {
         if self.version >= changes.len() {
             return Ok(());
         }
-        self.leave_out_ended(alloc, at)?;
+        self.leave_out_ended(at);
         for _turn in self.version..changes.len() {
             self.pass_over(changes);
             if self.version >= changes.len() {
@@ -98,19 +98,16 @@ impl CachedPeriods {
         changes.len()
     }
 
-    /// Leaves out the periods that have ended by a moment, and is complete from then on.
-    fn leave_out_ended(&mut self, alloc: Global, at: Moment) -> Result<(), AllocError>
-        ensures left { OnOk result (self.new ≡ record self.old {
+    /// Leaves out the periods that have ended by a moment, and is complete from then on. It takes no
+    /// memory.
+    fn leave_out_ended(&mut self, at: Moment)
+        ensures { self.new ≡ record self.old {
           from = at;
           periods = filter (ends_after at) self.old.periods;
-        }) }
-        ensures err { OnErr result (self.new ≡ self.old) }
+        } }
     {
-        if !self.periods.is_empty() {
-            self.periods = ending_after(alloc, self.periods.as_slice(), at)?;
-        }
+        keep_unended(&mut self.periods, at);
         self.from = at;
-        Ok(())
     }
 
     /// Takes in that a silence changed. It looks for the silence only if that may mute the labels.
@@ -132,10 +129,10 @@ impl CachedPeriods {
         ensures err { OnErr result (self.new ≡ self.old) }
     {
         if change.may_concern(self.from, self.bits) {
-            self.ask_present(alloc, answers, silences, &change.id)
-        } else {
-            self.leave_out(alloc, &change.id)
+            return self.ask_present(alloc, answers, silences, &change.id);
         }
+        self.leave_out(&change.id);
+        Ok(())
     }
 
     /// Takes in the period of the silence with this id, if it hasn't ended and matches the labels.
@@ -158,7 +155,10 @@ impl CachedPeriods {
             Some(silence) if self.from < silence.ends_at => {
                 self.ask(alloc, answers, id, silence)
             }
-            _ => self.leave_out(alloc, id),
+            _ => {
+                self.leave_out(id);
+                Ok(())
+            }
         }
     }
 
@@ -179,37 +179,21 @@ impl CachedPeriods {
         ensures err { OnErr result (self.new ≡ self.old) }
     {
         if !silence.matchers.matches_all(answers, &self.labels)? {
-            return self.leave_out(alloc, id);
+            self.leave_out(id);
+            return Ok(());
         }
         let period = SilencePeriod::of(*id, silence);
         self.periods = with_period(alloc, self.periods.as_slice(), period)?;
         Ok(())
     }
 
-    /// Leaves out the period of a silence, if there is one.
-    fn leave_out(&mut self, alloc: Global, id: &SilenceId) -> Result<(), AllocError>
-        ensures left { OnOk result (self.new ≡ record self.old {
+    /// Leaves out the period of a silence, if there is one. It takes no memory.
+    fn leave_out(&mut self, id: &SilenceId)
+        ensures { self.new ≡ record self.old {
           periods = without_silence id.now self.old.periods;
-        }) }
-        ensures err { OnErr result (self.new ≡ self.old) }
+        } }
     {
-        if self.periods.is_empty() {
-            return Ok(());
-        }
-        self.leave_out_listed(alloc, id)
-    }
-
-    /// Looks for the period of a silence, and leaves it out.
-    fn leave_out_listed(&mut self, alloc: Global, id: &SilenceId) -> Result<(), AllocError>
-        ensures left { OnOk result (self.new ≡ record self.old {
-          periods = without_silence id.now self.old.periods;
-        }) }
-        ensures err { OnErr result (self.new ≡ self.old) }
-    {
-        if lists(self.periods.as_slice(), id) {
-            self.periods = without(alloc, self.periods.as_slice(), id)?;
-        }
-        Ok(())
+        keep_others(&mut self.periods, id);
     }
 }
 
@@ -239,45 +223,18 @@ pub(crate) fn is_caught_up(
     }
 }
 
-/// Returns whether a silence has one of these periods.
-fn lists(periods: &[SilencePeriod], id: &SilenceId) -> bool
-    ensures { result ≡ lists periods.now id.now }
+/// Keeps the periods that end after a moment.
+fn keep_unended(periods: &mut Listing<SilencePeriod>, at: Moment)
+    ensures { periods.new ≡ filter (ends_after at) periods.old }
 {
-    periods.iter().any(|period| *id == period.id)
+    periods.retain(|period| at < period.ends_at);
 }
 
-/// Copies the periods that end after a moment.
-fn ending_after(
-    alloc: Global,
-    periods: &[SilencePeriod],
-    at: Moment,
-) -> Result<Listing<SilencePeriod>, AllocError>
-    ensures { IfOk result (λ copy. copy ≡ filter (ends_after at) periods.now) }
+/// Keeps the periods of other silences.
+fn keep_others(periods: &mut Listing<SilencePeriod>, id: &SilenceId)
+    ensures { periods.new ≡ without_silence id.now periods.old }
 {
-    let mut copy = Listing::new(alloc);
-    for period in periods {
-        if at < period.ends_at {
-            copy.push(*period)?;
-        }
-    }
-    Ok(copy)
-}
-
-/// Copies the periods but for that of a silence.
-fn without(
-    alloc: Global,
-    periods: &[SilencePeriod],
-    id: &SilenceId,
-) -> Result<Listing<SilencePeriod>, AllocError>
-    ensures { IfOk result (λ copy. copy ≡ without_silence id.now periods.now) }
-{
-    let mut copy = Listing::new(alloc);
-    for period in periods {
-        if *id != period.id {
-            copy.push(*period)?;
-        }
-    }
-    Ok(copy)
+    periods.retain(|period| *id != period.id);
 }
 
 /// Copies the periods, with this one in place of that of the same silence, in the order of the ids.

@@ -12,7 +12,7 @@ use Rattle.amr_engine.proofs.indexes.cached_periods.CachedPeriods.catch_up.Goals
 
 pub loop-turn-init : goal.loop-turn-init
 loop-turn-init c =
-    let left = c.in_ok-leave_out_ended.ensures.left in
+    let left = c.leave_out_ended.ensures in
     let from : c.leave_out_ended.new.self.from ≡ c.args.at = ap (λ (k : CachedPeriods). k.from) left in
     let le : c.leave_out_ended.new.self.from ≤ c.args.at = omega arith in
     (omega arith, refl, le, left_out (map_of nat_cmp c.args.silences.now) (changed_ids c.args.changes.now) c.args.self.now c.leave_out_ended.new.self c.args.at c.requires.cached c.requires.before left)
