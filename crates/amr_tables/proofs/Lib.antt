@@ -3,7 +3,6 @@ pub mod Counting
 pub mod Placing
 pub mod Numbering
 pub mod Sorting
-pub mod Seating
 pub mod Present
 pub mod Closing
 pub mod Playing

@@ -9,6 +9,7 @@ use Rattle.std.specs.Ordering.{eq_by_cmp, is_lt}
 use Rattle.std.specs.Cmp.{IsTotalOrder, eq_by_cmp_equiv, tied_itself}
 use Rattle.std.specs.FinMap.{find, put, is_sorted, IsAntisymmetric}
 use Rattle.std.specs.FinMap.Entries.{below_all, find-put, is_sorted-put, length-put}
+use Rattle.std.proofs.lemmas.Option.{gets}
 use Rattle.amr_labels.proofs.Sorted.{both, first, second, less}
 use Rattle.amr_labels.specs.Map.{from_sorted, entries, get, empty, same_map, same_entries_map, entries-from_sorted, get-entries, get-set}
 use Rattle.amr_tables.specs.Places.{value_at}
@@ -65,7 +66,7 @@ module _ {K V : Type 0} (R : K → K → Ordering) where
   shown_none t none = same_entries_map _ _ (ap (λ (es : List (K × ℕ)). entries (from_sorted {R = R} (filter_map (entry_at t.cells) es))) none ∙ entries-from_sorted R [] tt)
 
 -- what a table shows, by a name that a function's attribute can give
-pub ruleset shown = (get-shown)
+pub ruleset shown = (get-shown, gets)
 
 -- what is found at a key's number is what the table shows
 pub shown_as : {K V : Type 0} {R : K → K → Ordering} → IsTotalOrder R → {t u : Numbered K V} → t ≡ u → IsNumbering R t → (q : K) {found : Option ℕ} → find R q t.numbers ≡ found → option_and_then (value_at t.cells) found ≡ get (map_of R u) q

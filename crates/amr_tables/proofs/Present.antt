@@ -1,12 +1,10 @@
 -- Which numbers are in their groups, as rows change.
-use Rattle.std.proofs.Common.{◌≡◌, ◌≢◌, ℕ, suc, zero, not, ◌+◌, ◌-◌, ◌<◌, ◌≤◌, cond, Bool, true, false, IsTrue, Option, Some, None, List, [], ◌∷◌, ◌++◌, length, get_or, map, slice_set, take, refl, sym, ap, subst, ◌∙◌, arith, length-append}
-use Rattle.std.specs.Prelude.{◌==◌, nat_lt, slice_get, option_map, option_and_then, unwrap_or}
-use Rattle.std.specs.Option.{option_map_or}
-use Rattle.std.specs.List.{list_any}
-use Rattle.std.proofs.lemmas.Bool.{eq-eqb}
+use Rattle.std.proofs.Common.{◌≡◌, ℕ, suc, zero, not, ◌+◌, ◌-◌, ◌<◌, cond, Bool, false, Some, List, [], ◌∷◌, ◌++◌, length, get_or, map, slice_set, take, refl, ◌∙◌, arith, length-append}
+use Rattle.std.specs.Prelude.{◌==◌, nat_lt, slice_get}
 use Rattle.std.proofs.lemmas.Bool.Decides.{nat_tests}
-use Rattle.std.proofs.lemmas.Option.{none-some, same_Some, slice_get-map, slice_get-get_or, slice_get_read, slice_get_past}
-use Rattle.std.proofs.lemmas.List.{length-map, length-set, length-take-le, get_or-take}
+use Rattle.std.proofs.lemmas.Grind.{get_or-set_at}
+use Rattle.std.proofs.lemmas.Option.{gets, slice_get-map, slice_get-get_or, slice_get_past, slice_get_within}
+use Rattle.std.proofs.lemmas.List.{map-append, length-set, get_or-set_other, length-take-le, get_or-take}
 use Rattle.std.proofs.lemmas.List.Folds.{Any-from_list_any, list_any_at}
 use Rattle.std.proofs.lemmas.Map.Keys.{IsDistinct-from_apart}
 use Rattle.std.specs.Bool.{beq}
@@ -14,9 +12,8 @@ use mir.Val.{bool_byte}
 use Rattle.amr_tables.specs.Places.{is_marked}
 use Rattle.amr_tables.specs.declared.grouped.Seat.{Seat}
 use Rattle.amr_tables.specs.declared.grouped.Row.{Row}
-use Rattle.amr_tables.specs.Grouped.{Grouped, IsIn, AreNumbersOf}
-use Rattle.amr_tables.specs.Seats.{home_at, position_at, number_at, count_at, is_seated_in, has_room, Seated, IsSeating}
-use Rattle.amr_tables.proofs.Seating.{joined, exchanged, set_row, count_set, counted_set, standing, moved, home_moved, position_moved, homes_moved, number_exchanged}
+use Rattle.amr_tables.specs.Grouped.{Grouped, AreNumbersOf}
+use Rattle.amr_tables.specs.Seats.{home_at, position_at, number_at, count_at, is_seated_in, IsSeating}
 
 -- ---- lists
 
@@ -30,212 +27,142 @@ get_push (y ∷ xs) x (suc k) = let rest = get_push xs x k in grind (arith, nat_
 pub marked_push : (marks : List Bool) (n : ℕ) → is_marked (marks ++ false ∷ []) n ≡ is_marked marks n
 marked_push marks n = grind (arith, nat_tests, get_push marks false n, slice_get_past marks n)
 
--- a place that is marked exists
-pub marked_within : (marks : List Bool) (n : ℕ) → is_marked marks n ≡ true → n < length marks
-marked_within marks n is = grind (arith, slice_get_past marks n, is)
+pub get_set : {X : Type 0} (xs : List X) (n : ℕ) (x : X) → n < length xs → (k : ℕ) → slice_get (slice_set xs n x) k ≡ cond (k == n) (Some x) (slice_get xs k)
+get_set xs n x h k = grind (arith, nat_tests, slice_get-get_or (slice_set xs n x) k x, slice_get-get_or xs k x, slice_get_past (slice_set xs n x) k, slice_get_past xs k, length-set xs n x, get_or-set_at xs n k x x, get_or-set_other xs n k x x, h)
 
 -- ---- rows that change, with the same numbers in them
 
-pub seated_same : (rows next : List Row) → ((g : ℕ) → count_at next g ≡ count_at rows g) → is_seated_in next ≡ is_seated_in rows
-seated_same rows next counts i seat = nat_lt seat.position (counts seat.group i)
+pub present_same : (seats : List Seat) (rows next : List Row) → ((g : ℕ) → count_at next g ≡ count_at rows g) → map (is_seated_in next) seats ≡ map (is_seated_in rows) seats
+present_same seats rows next counts i = map (λ (seat : Seat). nat_lt seat.position (counts seat.group i)) seats
 
-pub seating_same : {seats : List Seat} (rows next : List Row) → ((g i : ℕ) → number_at next g i ≡ number_at rows g i) → ((g : ℕ) (row : Row) → slice_get next g ≡ Some row → row.count ≤ length row.numbers.items) → IsSeating seats rows → IsSeating seats next
-seating_same {seats} rows next numbers counted is = record {
-  seated = record {
-    there = λ n g e. numbers g (position_at seats n) ∙ is.seated.there n g e;
-    homed = λ g i n e. is.seated.homed g i n (sym (numbers g i) ∙ e);
-    placed = λ g i n e. is.seated.placed g i n (sym (numbers g i) ∙ e);
-  };
-  counted = counted;
-}
-
--- the row of a group
-pub row_of : (t : Grouped) (rows : List Row) (seat : Bool) (g : ℕ) (row : Row) → map (has_room seat) rows ≡ t.rooms → g < length t.rooms → row ≡ get_or rows g row → slice_get rows g ≡ Some row
-row_of t rows seat g row rooms within read = slice_get_read rows (length t.rooms) g row (ap length (sym rooms) ∙ length-map rows (has_room seat)) within read
-
--- a row more, without numbers
+-- a group more, without numbers
 module _ (rows : List Row) (row : Row) (none : row.numbers.items ≡ []) (zero_count : row.count ≡ 0) where
-  pub row_more : (g : ℕ) → count_at (rows ++ row ∷ []) g ≡ count_at rows g
-  row_more g = grind (arith, nat_tests, get_push rows row g, slice_get_past rows g, zero_count)
+  pub count_more : (g : ℕ) → count_at (rows ++ row ∷ []) g ≡ count_at rows g
+  count_more g = grind (arith, nat_tests, get_push rows row g, slice_get_past rows g, zero_count)
 
-  pub numbers_more : (g i : ℕ) → number_at (rows ++ row ∷ []) g i ≡ number_at rows g i
-  numbers_more g i = grind (arith, nat_tests, get_push rows row g, slice_get_past rows g, none)
+  pub seating_more : {seats : List Seat} → IsSeating seats rows → IsSeating seats (rows ++ row ∷ [])
+  seating_more {seats} is = record {
+    seated = record {
+      there = λ k h e. grind (arith, nat_tests, is.seated.there k h, get_push rows row h, slice_get_past rows h, e);
+      homed = λ h i k e. grind (arith, nat_tests, is.seated.homed h i k, get_push rows row h, slice_get_past rows h, none, e);
+      placed = λ h i k e. grind (arith, nat_tests, is.seated.placed h i k, get_push rows row h, slice_get_past rows h, none, e);
+    };
+    counted = λ h r e. grind (arith, nat_tests, is.counted h r, get_push rows row h, zero_count, e);
+  }
 
-  pub counted_more : ((g : ℕ) (r : Row) → slice_get rows g ≡ Some r → r.count ≤ length r.numbers.items) → (g : ℕ) (r : Row) → slice_get (rows ++ row ∷ []) g ≡ Some r → r.count ≤ length r.numbers.items
-  counted_more counted g r at = let old = counted g r in grind (arith, nat_tests, get_push rows row g, at, old, same_Some row r, zero_count)
+module _ (rows : List Row) (g : ℕ) {row : Row} (changed : Row) (found : slice_get rows g ≡ Some row) where
+  pub set_row : (h : ℕ) → slice_get (slice_set rows g changed) h ≡ cond (h == g) (Some changed) (slice_get rows h)
+  set_row = get_set rows g changed (slice_get_within rows g row found)
 
--- a row in which the same numbers stand
-pub numbers_kept : (rows : List Row) (g : ℕ) (row changed : Row) → slice_get rows g ≡ Some row → changed.numbers.items ≡ row.numbers.items → (h i : ℕ) → number_at (slice_set rows g changed) h i ≡ number_at rows h i
-numbers_kept rows g row changed is numbers h i = grind (arith, nat_tests, set_row rows g row changed is h, is, numbers)
+  pub count_kept : changed.count ≡ row.count → (h : ℕ) → count_at (slice_set rows g changed) h ≡ count_at rows h
+  count_kept same h = grind (arith, nat_tests, set_row h, found, same)
 
--- there is room in a group
-pub room_made : (rows : List Row) (g : ℕ) (row changed : Row) → slice_get rows g ≡ Some row → (seat : Bool) → has_room seat changed ≡ true → is_marked (map (has_room seat) (slice_set rows g changed)) g ≡ true
-room_made rows g row changed is seat room = grind (arith, nat_tests, slice_get-map (has_room seat) (slice_set rows g changed) g, set_row rows g row changed is g, room)
+  -- a row in which the same numbers stand
+  pub seating_kept : {seats : List Seat} → changed.numbers.items ≡ row.numbers.items → changed.count ≡ row.count → IsSeating seats rows → IsSeating seats (slice_set rows g changed)
+  seating_kept {seats} items count is = record {
+    seated = record {
+      there = λ k h e. grind (arith, nat_tests, is.seated.there k h, set_row h, found, items, e);
+      homed = λ h i k e. grind (arith, nat_tests, is.seated.homed h i k, set_row h, found, items, e);
+      placed = λ h i k e. grind (arith, nat_tests, is.seated.placed h i k, set_row h, found, items, e);
+    };
+    counted = λ h r e. grind (arith, nat_tests, is.counted h r, is.counted g row, set_row h, found, items, count, e);
+  }
 
 -- ---- the next number
 
-module _ {seats : List Seat} {rows : List Row} (is : IsSeating seats rows) (g : ℕ) {row : Row} (changed : Row) (found : slice_get rows g ≡ Some row) (numbers : changed.numbers.items ≡ row.numbers.items ++ length seats ∷ []) (count : changed.count ≡ row.count) where
+module _ {seats : List Seat} {rows : List Row} (is : IsSeating seats rows) (g : ℕ) {n p : ℕ} {row : Row} (changed : Row) (found : slice_get rows g ≡ Some row)
+    (n_is : n ≡ length seats) (p_is : p ≡ length row.numbers.items) (numbers : changed.numbers.items ≡ row.numbers.items ++ n ∷ []) (count : changed.count ≡ row.count) where
   abbrev seat : Seat
-  seat = record { group = g; position = length row.numbers.items }
+  seat = record { group = g; position = p }
 
-  number_after : (h i : ℕ) → number_at (slice_set rows g changed) h i ≡ cond (h == g) (cond (i == length row.numbers.items) (Some (length seats)) (number_at rows h i)) (number_at rows h i)
-  number_after h i = grind (arith, nat_tests, set_row rows g row changed found h, found, numbers, get_push row.numbers.items (length seats) i)
+  number_after : (h i : ℕ) → number_at (slice_set rows g changed) h i ≡ cond (h == g) (cond (i == p) (Some n) (number_at rows h i)) (number_at rows h i)
+  number_after h i = grind (arith, nat_tests, set_row rows g changed found h, found, numbers, p_is, get_push row.numbers.items n i)
 
   pub seating_next : IsSeating (seats ++ seat ∷ []) (slice_set rows g changed)
   seating_next = record {
-    seated = joined (length seats) g (length row.numbers.items) is.seated no_seat no_number (λ k. grind (arith, nat_tests, get_push seats seat k)) (λ k. grind (arith, nat_tests, get_push seats seat k)) number_after;
-    counted = counted_set rows g row changed found (omega (arith, is.counted g row found, count, ap length numbers, length-append row.numbers.items (length seats ∷ []))) is.counted;
+    seated = record {
+      there = λ k h e. grind (arith, nat_tests, is.seated.there k h, get_push seats seat k, number_after h (position_at (seats ++ seat ∷ []) k), slice_get_past row.numbers.items p, found, n_is, p_is, e);
+      homed = λ h i k e. grind (arith, nat_tests, is.seated.homed h i k, get_push seats seat k, number_after h i, slice_get_past seats k, n_is, e);
+      placed = λ h i k e. grind (arith, nat_tests, is.seated.homed h i k, is.seated.placed h i k, get_push seats seat k, number_after h i, slice_get_past seats k, n_is, e);
+    };
+    counted = λ h r e. grind (arith, nat_tests, is.counted h r, is.counted g row, set_row rows g changed found h, found, numbers, length-append row.numbers.items (n ∷ []), count, e);
   }
-    where
-      no_seat : home_at seats (length seats) ≡ None
-      no_seat = ap (option_map (λ (s : Seat). s.group)) (slice_get_past seats (length seats) (omega arith))
-
-      no_number : number_at rows g (length row.numbers.items) ≡ None
-      no_number = ap (option_and_then (λ (r : Row). slice_get r.numbers.items (length row.numbers.items))) found ∙ slice_get_past row.numbers.items (length row.numbers.items) (omega arith)
 
   -- it isn't in its group
-  pub absent : is_seated_in (slice_set rows g changed) seat ≡ false
-  absent = let most = is.counted g row found in grind (arith, nat_tests, set_row rows g row changed found g, count, most)
+  pub present_next : map (is_seated_in (slice_set rows g changed)) (seats ++ seat ∷ []) ≡ map (is_seated_in rows) seats ++ false ∷ []
+  present_next =
+      let absent : is_seated_in (slice_set rows g changed) seat ≡ false = grind (arith, nat_tests, is.counted g row found, set_row rows g changed found g, count, p_is) in
+      map-append (is_seated_in (slice_set rows g changed)) seats (seat ∷ [])
+      ∙ (λ i. present_same seats rows (slice_set rows g changed) (count_kept rows g changed found count) i ++ absent i ∷ [])
 
 -- ---- the numbers that are in a group
 
 -- those in front of a row are the numbers in the group
-pub front_are : (g : Grouped) {seats : List Seat} {rows : List Row} (is : IsSeating seats rows) (group : ℕ) {row : Row} → slice_get rows group ≡ Some row
-    → map (λ (s : Seat). s.group) seats ≡ g.homes → map (is_seated_in rows) seats ≡ g.present → AreNumbersOf g group (take row.count row.numbers.items)
-front_are g {seats} {rows} is group {row} found homes present = subst (λ t. AreNumbersOf t group front) (λ i. record { homes = homes i; present = present i; rooms = g.rooms }) (record {
-  distinct = IsDistinct-from_apart (λ (a b : ℕ). a == b) front (λ i j d less within.
-      let here = is.seated.placed group i _ (read i d (omega arith)) in
-      let there = is.seated.placed group j _ (read j d within) in
-      apart (position_at seats) i j _ _ here there less);
-  members = λ n h. let there = Any-from_list_any (λ m. n == m) front h in member n there.0 there.1 there.2 there.3 there.4;
-  all = λ n is_in. all n (sym (slice_get-map (λ (s : Seat). s.group) seats n) ∙ is_in.0) is_in.1;
-})
-  where
-    front : List ℕ
-    front = take row.count row.numbers.items
+module _ (g : Grouped) {seats : List Seat} {rows : List Row} (is : IsSeating seats rows) (group : ℕ) {row : Row} (found : slice_get rows group ≡ Some row)
+    (homes : map (λ (s : Seat). s.group) seats ≡ g.homes) (present : map (is_seated_in rows) seats ≡ g.present) where
+  abbrev front : List ℕ
+  front = take row.count row.numbers.items
 
-    len : length (take row.count row.numbers.items) ≡ row.count
-    len = length-take-le row.count row.numbers.items (is.counted group row found)
+  read : (i d : ℕ) → i < length front → (number_at rows group i ≡ Some (get_or front i d)) × (i < row.count)
+  read i d within = grind (arith, gets, length-take-le row.count row.numbers.items, get_or-take row.count row.numbers.items i d, is.counted group row found, found, within)
 
-    read : (i d : ℕ) → i < length (take row.count row.numbers.items) → number_at rows group i ≡ Some (get_or (take row.count row.numbers.items) i d)
-    read i d within =
-        let most = is.counted group row found in
-        ap (option_and_then (λ (r : Row). slice_get r.numbers.items i)) found ∙ slice_get-get_or row.numbers.items i d (omega (arith, len))
-        ∙ ap (λ n. Some n) (sym (get_or-take row.count row.numbers.items i d (omega (arith, len))))
+  pub front_are : AreNumbersOf g group front
+  front_are = record {
+    distinct = IsDistinct-from_apart (λ (a b : ℕ). a == b) front (λ i j d less within.
+        let here = read i d (omega arith) in
+        grind (arith, nat_tests, here, read j d within, is.seated.placed group i (get_or front i d), is.seated.placed group j (get_or front j d), less));
+    members = λ n h.
+        let there = Any-from_list_any (λ m. n == m) front h in
+        let standing = read there.0 there.1 there.2 in (
+          grind (arith, nat_tests, standing, there.3, there.4, is.seated.homed group there.0 n, slice_get-map (λ (s : Seat). s.group) seats n, homes),
+          grind (arith, nat_tests, standing, there.3, there.4, is.seated.homed group there.0 n, is.seated.placed group there.0 n, slice_get-map (is_seated_in rows) seats n, present, found),
+        );
+    all = λ n is_in.
+        let home : home_at seats n ≡ Some group = grind (arith, slice_get-map (λ (s : Seat). s.group) seats n, homes, is_in.0) in
+        let within : position_at seats n < length front = grind (arith, nat_tests, home, slice_get-map (is_seated_in rows) seats n, present, found, is.counted group row found, length-take-le row.count row.numbers.items, is_in.1) in
+        list_any_at (λ m. n == m) front (position_at seats n) n within (grind (arith, nat_tests, read (position_at seats n) n within, is.seated.there n group home));
+  }
 
-    apart : (position : ℕ → ℕ) (i j a b : ℕ) → position a ≡ i → position b ≡ j → i < j → (a == b) ≡ false
-    apart position i j a b here there less = grind (arith, nat_tests, here, there, less)
-
-    member : (n i m : ℕ) → i < length (take row.count row.numbers.items) → get_or (take row.count row.numbers.items) i m ≡ m → (n == m) ≡ true → IsIn (record { homes = map (λ (s : Seat). s.group) seats; present = map (is_seated_in rows) seats; rooms = g.rooms }) n group
-    member n i m within at same =
-        let is_n : get_or (take row.count row.numbers.items) i m ≡ n = grind (arith, nat_tests, at, same) in
-        let there = read i m within ∙ ap (λ n. Some n) is_n in
-        let home = is.seated.homed group i n there in
-        let place = is.seated.placed group i n there in
-        (slice_get-map (λ (s : Seat). s.group) seats n ∙ home, grind (arith, nat_tests, slice_get-map (is_seated_in rows) seats n, home, place, found, len, within))
-
-    all : (n : ℕ) → home_at seats n ≡ Some group → IsTrue (is_marked (map (is_seated_in rows) seats) n) → IsTrue (list_any (λ m. n == m) (take row.count row.numbers.items))
-    all n home marked =
-        let less : position_at seats n < length (take row.count row.numbers.items) = grind (arith, nat_tests, slice_get-map (is_seated_in rows) seats n, home, found, len, marked) in
-        let there = same_Some _ _ (sym (is.seated.there n group home) ∙ read (position_at seats n) n less) in
-        list_any_at (λ m. n == m) (take row.count row.numbers.items) (position_at seats n) n less (eq-eqb n _ there)
-
--- ---- a number comes, or leaves
-
--- where the numbers in a group end, for one that stands at `p` and comes or leaves, and where they end then
-abbrev pub IsEdge : (p count q next : ℕ) → Bool → Type 0
-IsEdge p count q next true = (count ≤ p) × ((q ≡ count) × (next ≡ count + 1))
-IsEdge p count q next false = (p < count) × ((q + 1 ≡ count) × (next ≡ q))
-
-pub edge_is : (p count back on : ℕ) (is_in : Bool) → beq (nat_lt p count) is_in ≡ false → back ≡ bool_byte (not is_in) → on ≡ bool_byte is_in → IsEdge p count (count - back) (count - back + on) is_in
-edge_is p count back on true e b o = let beyond : count ≤ p = grind (arith, nat_tests, e) in omega arith
-edge_is p count back on false e b o = let less : p < count = grind (arith, nat_tests, e) in omega arith
-
--- both are within the row
-pub edge_within : (p count q next len : ℕ) (is_in : Bool) → IsEdge p count q next is_in → p < len → count ≤ len → (q < len) × (next ≤ len)
-edge_within p count q next len true e within most = omega arith
-edge_within p count q next len false e within most = omega arith
-
-module _ {home : ℕ → Option ℕ} {position after : ℕ → ℕ} {at : ℕ → ℕ → Option ℕ} (l : Seated home position at) (n m g q : ℕ) (here : home n ≡ Some g) (there : at g q ≡ Some m)
-    (ep : (k : ℕ) → after k ≡ cond (k == n) q (cond (k == m) (position n) (position k))) (count next : ℕ → ℕ) (end : ℕ) (ec : (h : ℕ) → next h ≡ cond (h == g) end (count h)) where
-  -- no other number of the group stands at the position
-  alone : (k : ℕ) → home k ≡ Some g → position k ≡ q → k ≡ m
-  alone k own e = same_Some k m (sym (l.there k g own) ∙ ap (at g) e ∙ there)
-
-  moves : (is_in : Bool) → IsEdge (position n) (count g) q end is_in → (k h : ℕ) → home k ≡ Some h → nat_lt (after k) (next h) ≡ cond (k == n) is_in (nat_lt (position k) (count h))
-  moves true e k h own = grind (arith, nat_tests, alone k, alone n, l.homed g q m there, l.placed g q m there, ep k, ec h, here, e.0, e.1.0, e.1.1, own)
-  moves false e k h own = grind (arith, nat_tests, alone k, alone n, l.homed g q m there, l.placed g q m there, ep k, ec h, here, e.0, e.1.0, e.1.1, own)
-
--- whether a number is in its group, by its seat
-present_at : (seats : List Seat) (rows : List Row) (k : ℕ) → is_marked (map (is_seated_in rows) seats) k ≡ unwrap_or (option_map (λ g. nat_lt (position_at seats k) (count_at rows g)) (home_at seats k)) false
-present_at seats rows k = grind (arith, nat_tests, slice_get-map (is_seated_in rows) seats k)
-
--- The numbers are seated again, each in the group that it belongs to. This number is in it or not, and
--- each other one as it was.
-pub record IsSetTo (n : ℕ) (is_in : Bool) (seats after : List Seat) (rows next : List Row) : Type 0 where
-  pub seating : IsSeating after next
-  pub homes : map (λ (s : Seat). s.group) after ≡ map (λ (s : Seat). s.group) seats
-  pub present : (k : ℕ) → is_marked (map (is_seated_in next) after) k ≡ cond (k == n) is_in (is_marked (map (is_seated_in rows) seats) k)
-
--- a number and the one at the edge of its group change places, and the edge moves past it
-module _ {seats : List Seat} {rows : List Row} (is : IsSeating seats rows) (n q : ℕ) {m : ℕ} {seat other again : Seat} {row : Row} (changed : Row)
-    (at : slice_get seats n ≡ Some seat) (found : slice_get rows seat.group ≡ Some row) (there : slice_get row.numbers.items q ≡ Some m)
-    (at_other : slice_get seats m ≡ Some other) (at_again : slice_get (moved seats m other at_other seat.position) n ≡ Some again)
-    (items : changed.numbers.items ≡ slice_set (slice_set row.numbers.items seat.position m) q n) (is_in : Bool) (edge : IsEdge seat.position row.count q changed.count is_in) where
-  abbrev first : List Seat
-  first = moved seats m other at_other seat.position
-
-  abbrev after : List Seat
-  after = moved first n again at_again q
-
+-- A number changes places with the one at the edge of its group, as read, and the edge moves past it.
+-- Then it is in the group or not, as asked, and each other one as it was.
+module _ {seats : List Seat} {rows : List Row} (is : IsSeating seats rows) (n : ℕ) {m back on : ℕ} {seat other : Seat} {row : Row} (is_in : Bool) (changed : Row)
+    (at : slice_get seats n ≡ Some seat) (found : slice_get rows seat.group ≡ Some row) (apart : beq (nat_lt seat.position row.count) is_in ≡ false)
+    (back_is : back ≡ bool_byte (not is_in)) (on_is : on ≡ bool_byte is_in) (read : m ≡ get_or row.numbers.items (row.count - back) m) (read_other : other ≡ get_or seats m other)
+    (items : changed.numbers.items ≡ slice_set (slice_set row.numbers.items seat.position m) (row.count - back) n) (count : changed.count ≡ row.count - back + on) where
   abbrev next : List Row
   next = slice_set rows seat.group changed
 
-  own : position_at seats n ≡ seat.position
-  own = ap (λ s. option_map_or (λ (s : Seat). s.position) s 0) at
+  abbrev first : List Seat
+  first = slice_set seats m (record { group = other.group; position = seat.position })
 
-  group : home_at seats n ≡ Some seat.group
-  group = ap (option_map (λ (s : Seat). s.group)) at
+  own : number_at rows seat.group seat.position ≡ Some n
+  own = grind (arith, is.seated.there n seat.group, at)
 
-  there_now : number_at rows seat.group q ≡ Some m
-  there_now = ap (option_and_then (λ (r : Row). slice_get r.numbers.items q)) found ∙ there
+  there : slice_get row.numbers.items (row.count - back) ≡ Some m
+  there = grind (arith, nat_tests, gets, own, found, is.counted seat.group row found, apart, back_is, on_is, read)
 
-  home : (k : ℕ) → home_at after k ≡ home_at seats k
-  home k = home_moved first n again at_again q k ∙ home_moved seats m other at_other seat.position k
+  other_own : (slice_get seats m ≡ Some other) × ((other.group ≡ seat.group) × (other.position ≡ row.count - back))
+  other_own = grind (arith, gets, is.seated.homed seat.group (row.count - back) m, is.seated.placed seat.group (row.count - back) m, found, there, read_other)
 
-  positions : (k : ℕ) → position_at after k ≡ cond (k == n) q (cond (k == m) (position_at seats n) (position_at seats k))
-  positions k = grind (arith, nat_tests, position_moved first n again at_again q k, position_moved seats m other at_other seat.position k, own)
+  numbers_after : (h i : ℕ) → number_at next h i ≡ cond (h == seat.group) (cond (i == row.count - back) (Some n) (cond (i == seat.position) (Some m) (number_at rows h i))) (number_at rows h i)
+  numbers_after h i = grind (arith, nat_tests, set_row rows seat.group changed found h, get_set row.numbers.items seat.position m, get_set (slice_set row.numbers.items seat.position m) (row.count - back) n, length-set row.numbers.items seat.position m, slice_get_within row.numbers.items (row.count - back) m there, slice_get_within row.numbers.items seat.position n, own, found, items)
 
-  within : seat.position < length row.numbers.items
-  within = standing is n at found
+  module _ {again : Seat} (read_again : again ≡ get_or first n again) where
+    abbrev after : List Seat
+    after = slice_set first n (record { group = again.group; position = row.count - back })
 
-  bounds : (q < length row.numbers.items) × (changed.count ≤ length row.numbers.items)
-  bounds = edge_within seat.position row.count q changed.count (length row.numbers.items) is_in edge within (is.counted seat.group row found)
+    seats_after : (k : ℕ) → slice_get after k ≡ cond (k == n) (Some (record { group = seat.group; position = row.count - back })) (cond (k == m) (Some (record { group = seat.group; position = seat.position })) (slice_get seats k))
+    seats_after k = grind (arith, nat_tests, gets, get_set seats m (record { group = other.group; position = seat.position }), get_set first n (record { group = again.group; position = row.count - back }), length-set seats m (record { group = other.group; position = seat.position }), slice_get_within seats n seat at, slice_get_within seats m other, at, other_own, read_again)
 
-  seated : Seated (home_at seats) (position_at after) (number_at next)
-  seated = exchanged n m seat.group q is.seated group there_now positions
-      (λ h i. number_exchanged rows seat.group row changed found seat.position q n m items within bounds.0 h i
-      ∙ ap (λ p. cond (h == seat.group) (cond (i == q) (Some n) (cond (i == p) (Some m) (number_at rows h i))) (number_at rows h i)) (sym own))
-
-  -- what is so of each home, or for none, is so of the number's
-  marked : (k : ℕ) (h : Option ℕ) (now former : ℕ → Bool) → (h ≡ None → k ≢ n) → ((g : ℕ) → h ≡ Some g → now g ≡ cond (k == n) is_in (former g)) → unwrap_or (option_map now h) false ≡ cond (k == n) is_in (unwrap_or (option_map former h) false)
-  marked k h now former none some = grind (arith, nat_tests, none, some)
-
-  pub is_set_to : IsSetTo n is_in seats after rows next
-  is_set_to = record {
-    seating = record {
+    pub seating_after : IsSeating after next
+    seating_after = record {
       seated = record {
-        there = λ k h e. seated.there k h (sym (home k) ∙ e);
-        homed = λ h i k e. home k ∙ seated.homed h i k e;
-        placed = seated.placed;
+        there = λ k h e. grind (arith, nat_tests, own, other_own, is.seated.there k h, seats_after k, numbers_after h (position_at after k), e, at, found, there);
+        homed = λ h i k e. grind (arith, nat_tests, own, other_own, is.seated.homed h i k, seats_after k, numbers_after h i, e, at, found, there);
+        placed = λ h i k e. grind (arith, nat_tests, own, other_own, is.seated.homed h i k, is.seated.placed h i k, seats_after k, numbers_after h i, e, at, found, there);
       };
-      counted = counted_set rows seat.group row changed found (omega (arith, bounds.1, ap length items, length-set row.numbers.items seat.position m, length-set (slice_set row.numbers.items seat.position m) q n)) is.counted;
-    };
-    homes = homes_moved first n again at_again q ∙ homes_moved seats m other at_other seat.position;
-    present = λ k.
-        present_at after next k ∙ ap (λ h. unwrap_or (option_map (λ g. nat_lt (position_at after k) (count_at next g)) h) false) (home k)
-        ∙ marked k (home_at seats k) _ _ (λ none same. none-some seat.group (sym none ∙ ap (home_at seats) same ∙ group))
-        (moves is.seated n m seat.group q group there_now positions (count_at rows) (count_at next) changed.count (count_set rows seat.group row changed found) is_in
-        (subst (λ (x : ℕ × ℕ). IsEdge x.0 x.1 q changed.count is_in) (λ i. (sym own i, ap (λ r. option_map_or (λ (r : Row). r.count) r 0) (sym found) i)) edge) k)
-        ∙ ap (cond (k == n) is_in) (sym (present_at seats rows k));
-  }
+      counted = λ h r e. grind (arith, nat_tests, set_row rows seat.group changed found h, is.counted h r, is.counted seat.group row found, length-set row.numbers.items seat.position m, length-set (slice_set row.numbers.items seat.position m) (row.count - back) n, slice_get_within row.numbers.items (row.count - back) m there, e, items, count, back_is, on_is);
+    }
+
+    pub present_after : (k : ℕ) → is_marked (map (is_seated_in next) after) k ≡ cond (k == n) is_in (is_marked (map (is_seated_in rows) seats) k)
+    present_after k = grind (arith, nat_tests, slice_get-map (is_seated_in next) after k, slice_get-map (is_seated_in rows) seats k, seats_after k, set_row rows seat.group changed found, is.seated.there k, own, other_own, at, found, there, apart, back_is, on_is, count)

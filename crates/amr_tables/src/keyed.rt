@@ -92,6 +92,7 @@ impl<K: Key + Drop, V: Drop> Keyed<K, V> {
 
     /// Returns the number of a key, if it has a place, and its value. With the number, `swap_at` needn't
     /// look for the key again.
+    #[tactic(auto, using(crate::proofs::Numbering::shown))]
     pub fn look_up_number(&self, key: &K) -> (Option<usize>, Option<&V>)
         ensures number { result.0 ≡ number_of K.cmp self.now key.now }
         ensures value { option_copied result.1 ≡ map.get (map_of K.cmp self.now) key.now }
@@ -135,6 +136,7 @@ impl<K: Key + Drop, V: Drop> Keyed<K, V> {
     }
 
     /// Returns the value at a place. It compares no keys, so it is faster than `get`.
+    #[tactic(auto, using(crate::proofs::Numbering::shown))]
     pub fn at(&self, number: usize) -> Option<&V>
         ensures place { option_copied result ≡ value_at self.now.cells number }
         ensures key { IsValueOf K.cmp self.now number (option_copied result) }
