@@ -1,11 +1,11 @@
 -- Keys that are numbered in the order of a list.
-use Rattle.std.proofs.Common.{◌≡◌, inl, add-one, ℕ, suc, ◌+◌, ◌<◌, Bool, false, not, cond, T, List, [], ◌∷◌, ◌++◌, None, Some, length, map, take, get_or, refl, sym, ap, subst, ◌∙◌, arith, is_some}
-use Rattle.std.specs.Prelude.{◌⊎◌, IsPermutation, IsSorted}
+use Rattle.std.proofs.Common.{◌≡◌, add-one, ℕ, suc, ◌+◌, ◌<◌, Bool, false, not, cond, T, List, [], ◌∷◌, ◌++◌, None, Some, length, map, take, get_or, refl, sym, ap, subst, ◌∙◌, arith, is_some}
+use Rattle.std.specs.Prelude.{IsPermutation, IsSorted}
 use Rattle.std.specs.List.Sorted.{IsStrictlySortedBy}
 use Rattle.std.specs.List.{All, IsDistinct, AllByRecursion, list_any, position, position_from}
 use Rattle.std.specs.declared.cmp.Ordering.{Ordering}
-use Rattle.std.specs.declared.cmp.Ordering.TheVariants.{Less, Equal}
-use Rattle.std.specs.Ordering.{eq_by_cmp, is_lt, nat_cmp, ordering_then}
+use Rattle.std.specs.declared.cmp.Ordering.TheVariants.{Equal}
+use Rattle.std.specs.Ordering.{eq_by_cmp, nat_cmp, ordering_then}
 use Rattle.std.specs.Cmp.{IsTotalOrder, eq_by_cmp_equiv, tied_itself}
 use Rattle.std.specs.FinMap.{find, put, is_sorted, IsAntisymmetric}
 use Rattle.std.specs.FinMap.Entries.{find-put, is_sorted-put, length-put, find_tied, is_some-find, same_entries}
@@ -43,9 +43,7 @@ module _ {K : Type 0} {R : K → K → Ordering} (o : IsTotalOrder R) where
   -- which is its index
   find-from : (q : K) (n : ℕ) (ks : List K) → find R q (numbered_from R n ks) ≡ position_from (eq_by_cmp R q) n ks
   find-from q n [] = refl
-  find-from q n (k ∷ ks) =
-      find-put R o q k n (numbered_from R (suc n) ks)
-      ∙ ap (cond (eq_by_cmp R q k) (Some n)) (find-from q (suc n) ks ∙ ap (λ m. position_from (eq_by_cmp R q) m ks) (sym (add-one n)))
+  find-from q n (k ∷ ks) = let rest = find-from q (suc n) ks in grind (arith, find-put R o q k n (numbered_from R (suc n) ks), rest, add-one n)
 
   pub find-numbered : (q : K) (ks : List K) → find R q (numbered_from R 0 ks) ≡ position (eq_by_cmp R q) ks
   find-numbered q ks = find-from q 0 ks ∙ sym (position_from-zero (eq_by_cmp R q) ks)
@@ -70,48 +68,43 @@ module _ {K : Type 0} {R : K → K → Ordering} (o : IsTotalOrder R) where
     -- a new key goes last, and gets the number of keys before it
     pub push_is : IsAntisymmetric R → (k : K) (ks : List K) → IsDistinct E ks → find R k (numbered_from R 0 ks) ≡ None → numbered_from R 0 (cond (list_any (E k) ks) ks (ks ++ k ∷ [])) ≡ put R k (length (numbered_from R 0 ks)) (numbered_from R 0 ks)
     push_is same k ks d none =
-        ap (λ b. numbered_from R 0 (cond b ks (ks ++ k ∷ []))) ((λ i. list_any (λ y. ties k y i) ks) ∙ sym (has-numbered k 0 ks) ∙ ap is_some none)
-        ∙ same_entries R o same _ _ (sorted-numbered 0 (ks ++ k ∷ [])) (is_sorted-put R o k _ _ (sorted-numbered 0 ks)) (λ q.
-        find-numbered q (ks ++ k ∷ []) ∙ pushed q ∙ sym (find-put R o q k (length (numbered_from R 0 ks)) (numbered_from R 0 ks)))
-      where
-        pushed : (q : K) → position (eq_by_cmp R q) (ks ++ k ∷ []) ≡ cond (eq_by_cmp R q k) (Some (length (numbered_from R 0 ks))) (find R q (numbered_from R 0 ks))
-        pushed q =
-            let most = prefix_len-le-length (λ x. not (eq_by_cmp R q x)) ks in
-            grind (arith, nat_tests, position_or_len_push (eq_by_cmp R q) ks k, length_push ks k, length-from 0 ks d, find-numbered q ks, alike q k (numbered_from R 0 ks), none, most)
+        let absent = (λ i. list_any (λ y. ties k y i) ks) ∙ sym (has-numbered k 0 ks) ∙ ap is_some none in
+        rw absent (same_entries R o same _ _ (sorted-numbered 0 (ks ++ k ∷ [])) (is_sorted-put R o k _ _ (sorted-numbered 0 ks)) (λ q.
+        grind (
+          arith,
+          nat_tests,
+          find-numbered q (ks ++ k ∷ []),
+          find-numbered q ks,
+          find-put R o q k (length (numbered_from R 0 ks)) (numbered_from R 0 ks),
+          alike q k (numbered_from R 0 ks),
+          none,
+          position_or_len_push (eq_by_cmp R q) ks k,
+          prefix_len-le-length (λ x. not (eq_by_cmp R q x)) ks,
+          length_push ks k,
+          length-from 0 ks d,
+        )))
 
     -- each key has the number that it was counted by
     counted_are : (n : ℕ) (ks : List K) → IsDistinct E ks → All (λ e. find R e.0 (numbered_from R n ks) ≡ Some e.1) (counted n ks)
     counted_are n [] d = λ k d lt. absurd (omega (arith, lt))
     counted_are n (k ∷ ks) d =
-        let own : find R k (numbered_from R n (k ∷ ks)) ≡ Some n = grind (arith, find-put R o k k n (numbered_from R (suc n) ks), tied_itself o k) in
-        All-cons (λ e. find R e.0 (numbered_from R n (k ∷ ks)) ≡ Some e.1) (k, n) (counted (suc n) ks) own
-        (All-weaker (λ e. find R e.0 (numbered_from R (suc n) ks) ≡ Some e.1) (λ e. find R e.0 (numbered_from R n (k ∷ ks)) ≡ Some e.1)
-        (λ e is. kept_number e.0 k e.1 n (numbered_from R (suc n) ks) (new_first k (suc n) ks d) is) (counted (suc n) ks) (counted_are (suc n) ks (IsDistinct-tail E k ks d)))
-      where
-        kept_number : (q k : K) (m n : ℕ) (es : List (K × ℕ)) → find R k es ≡ None → find R q es ≡ Some m → find R q (put R k n es) ≡ Some m
-        kept_number q k m n es none is = grind (arith, find-put R o q k n es, alike q k es, none, is)
+        let after : List (K × ℕ) = numbered_from R (suc n) ks in
+        All-cons (λ e. find R e.0 (numbered_from R n (k ∷ ks)) ≡ Some e.1) (k, n) (counted (suc n) ks) (grind (arith, find-put R o k k n after, tied_itself o k))
+        (All-weaker (λ e. find R e.0 after ≡ Some e.1) (λ e. find R e.0 (numbered_from R n (k ∷ ks)) ≡ Some e.1)
+        (λ e is. grind (arith, find-put R o e.0 k n after, alike e.0 k after, new_first k (suc n) ks d, is)) (counted (suc n) ks) (counted_are (suc n) ks (IsDistinct-tail E k ks d)))
 
     keys-counted : (n : ℕ) (ks : List K) → map (λ e. e.0) (counted n ks) ≡ ks
     keys-counted n [] = refl
     keys-counted n (k ∷ ks) = ap (λ rest. k ∷ rest) (keys-counted (suc n) ks)
 
     same_found : (q : K) (numbers es : List (K × ℕ)) → All (λ e. find R e.0 numbers ≡ Some e.1) es → is_some (find R q es) ≡ is_some (find R q numbers) → find R q es ≡ find R q numbers
-    same_found q numbers es all same = by (found es all)
-      where
-        found : (es : List (K × ℕ)) → All (λ e. find R e.0 numbers ≡ Some e.1) es → (find R q es ≡ None) ⊎ (find R q es ≡ find R q numbers)
-        found [] all = inl refl
-        found (e ∷ es) all =
-            let rest = found es (All-tail (λ e. find R e.0 numbers ≡ Some e.1) e es all) in
-            let here = All-head (λ e. find R e.0 numbers ≡ Some e.1) e es all in
-            grind (arith, alike q e.0 numbers, here, rest)
-
-        by : (find R q es ≡ None) ⊎ (find R q es ≡ find R q numbers) → find R q es ≡ find R q numbers
-        by is = grind (arith, is, same)
+    same_found q numbers [] all same = grind (arith, same)
+    same_found q numbers (e ∷ es) all same =
+        let here = All-head (λ e. find R e.0 numbers ≡ Some e.1) e es all in
+        let rest = same_found q numbers es (All-tail (λ e. find R e.0 numbers ≡ Some e.1) e es all) in
+        grind (arith, alike q e.0 numbers, here, rest, same)
 
     -- ---- the keys sorted, with their numbers
-
-    rising : (x y : K) (rest : Ordering) → is_lt (ordering_then (R y x) rest) ≡ false → eq_by_cmp R x y ≡ false → R x y ≡ Less
-    rising x y rest above other = grind (arith, o.antisymm y x, above, other)
 
     module _ {X : Type 0} (of : X → K × ℕ) where
       abbrev pub number_cmp : X → X → Ordering
@@ -125,10 +118,7 @@ module _ {K : Type 0} {R : K → K → Ordering} (o : IsTotalOrder R) where
           let key : X → K = λ x. (of x).0 in
           sorted_from_all_adjacent o (map key all) (key x) (λ k lt.
           let within : k + 1 < length all = rw (sym (length-map all key)) lt in
-          let this = get_or-map key all k x (key x) (omega (arith, within)) in
-          let next = get_or-map key all (k + 1) x (key x) within in
-          let other = sym (ties _ _) ∙ (λ i. E (sym this i) (sym next i)) ∙ apart_from_distinct E (map key all) k (k + 1) (key x) d (omega arith) lt in
-          (λ i. R (this i) (next i)) ∙ rising _ _ _ (up k x (omega arith) within) other)
+          grind (arith, get_or-map key all k x (key x), get_or-map key all (k + 1) x (key x), apart_from_distinct E (map key all) k (k + 1) (key x) d, ties (key (get_or all k x)) (key (get_or all (k + 1) x)), up k x, o.antisymm (key (get_or all (k + 1) x)) (key (get_or all k x)), lt, within))
 
       -- sorted, they are in order
       pub sorted_is : IsAntisymmetric R → (before items : List X) (ks : List K) → IsDistinct E ks → map of before ≡ counted 0 ks → IsPermutation before items → IsSorted number_cmp items → map of items ≡ numbered_from R 0 ks
@@ -148,12 +138,8 @@ module _ {K : Type 0} {R : K → K → Ordering} (o : IsTotalOrder R) where
 -- ---- one key more is counted
 
 counted-push : {K : Type 0} (n : ℕ) (ks : List K) (k : K) → counted n (ks ++ k ∷ []) ≡ counted n ks ++ (k, n + length ks) ∷ []
-counted-push n [] k = ap (λ m. (k, m) ∷ []) {x = n} {y = n + 0} (omega arith)
-counted-push n (x ∷ ks) k =
-    ap (λ rest. (x, n) ∷ rest) (counted-push (suc n) ks k)
-    ∙ ap (λ m. (x, n) ∷ counted (suc n) ks ++ (k, m) ∷ []) {x = suc n + length ks} {y = n + suc (length ks)} (omega arith)
+counted-push n [] k = grind arith
+counted-push n (x ∷ ks) k = let rest = counted-push (suc n) ks k in grind (arith, rest)
 
 pub counted-more : {K : Type 0} (ks : List K) (i : ℕ) (k : K) → i < length ks → k ≡ get_or ks i k → counted 0 (take (i + 1) ks) ≡ counted 0 (take i ks) ++ (k, i) ∷ []
-counted-more ks i k lt is =
-    ap (counted 0) (take_more ks i k lt ∙ ap (λ x. take i ks ++ x ∷ []) (sym is)) ∙ counted-push 0 (take i ks) k
-    ∙ ap (λ m. counted 0 (take i ks) ++ (k, m) ∷ []) {x = 0 + length (take i ks)} {y = i} (let len = length-take-le i ks (omega (arith, lt)) in omega (arith, len))
+counted-more ks i k lt is = grind (arith, take_more ks i k lt, counted-push 0 (take i ks) k, length-take-le i ks, lt, is)

@@ -1,5 +1,5 @@
 -- The key with a number, among keys that are numbered in the order of a list.
-use Rattle.std.proofs.Common.{◌≡◌, ℕ, suc, ◌-◌, Bool, List, [], ◌∷◌, Some, None, refl, ap, ◌∙◌, arith, nat_lt, slice_get}
+use Rattle.std.proofs.Common.{◌≡◌, ℕ, suc, ◌-◌, Bool, List, [], ◌∷◌, Some, None, refl, ◌∙◌, arith, nat_lt, slice_get}
 use Rattle.std.specs.Prelude.{◌==◌, if◌then◌else◌}
 use Rattle.std.specs.declared.cmp.Ordering.{Ordering}
 use Rattle.std.specs.Ordering.{eq_by_cmp}
@@ -28,15 +28,8 @@ module _ {K : Type 0} (R : K → K → Ordering) where
     from : (n m : ℕ) (ks : List K) → IsDistinct E ks → key_with (numbered_from R n ks) m ≡ (if nat_lt m n then None else slice_get ks (m - n))
     from n m [] d = grind arith
     from n m (k ∷ ks) d =
-        let rest = IsDistinct-tail E k ks d in
-        key_with-put k n m (numbered_from R (suc n) ks) (new_first o E ties k (suc n) ks d) (from (suc n) n ks rest ∙ below)
-        ∙ ap (λ found. if n == m then Some k else found) (from (suc n) m ks rest) ∙ step
-      where
-        below : (if nat_lt n (suc n) then None else slice_get ks (n - suc n)) ≡ None
-        below = grind (arith, nat_tests)
-
-        step : (if n == m then Some k else (if nat_lt m (suc n) then None else slice_get ks (m - suc n))) ≡ (if nat_lt m n then None else slice_get (k ∷ ks) (m - n))
-        step = grind (arith, nat_tests)
+        let rest = λ (x : ℕ). from (suc n) x ks (IsDistinct-tail E k ks d) in
+        grind (arith, nat_tests, key_with-put k n m (numbered_from R (suc n) ks), new_first o E ties k (suc n) ks d, rest n, rest m)
 
     pub key_with-numbered : (m : ℕ) (ks : List K) → IsDistinct E ks → key_with (numbered_from R 0 ks) m ≡ slice_get ks m
     key_with-numbered m ks d = from 0 m ks d ∙ grind (arith, nat_tests)

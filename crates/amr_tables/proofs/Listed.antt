@@ -1,16 +1,14 @@
 -- The values of a table that are listed with their keys, or alone.
-use Rattle.std.proofs.Common.{◌≡◌, ℕ, zero, suc, ◌+◌, ◌<◌, T, Bool, true, false, List, [], ◌∷◌, ◌++◌, Option, None, Some, length, map, take, get_or, refl, sym, ap, subst, ◌∙◌, append-nil, is_some, true≢false}
-use Rattle.std.specs.Prelude.{option_map, unwrap_or}
+use Rattle.std.proofs.Common.{◌≡◌, ℕ, zero, suc, ◌+◌, ◌<◌, T, Bool, true, false, List, [], ◌∷◌, ◌++◌, Option, None, Some, length, map, take, get_or, refl, sym, ap, ◌∙◌, append-nil, arith}
+use Rattle.std.specs.Prelude.{option_map}
 use Rattle.std.specs.Borrow.{Bor}
 use Rattle.std.specs.FinMap.{is_sorted}
 use Rattle.std.specs.declared.cmp.Ordering.{Ordering}
 use Rattle.std.specs.List.{filter_map, cons_option, list_all}
 use Rattle.std.proofs.lemmas.List.{take_more, map-append}
 use Rattle.std.proofs.lemmas.List.Elements.{filter_map-append}
-use Rattle.amr_labels.proofs.Sorted.{both, first, second}
 use Rattle.amr_labels.specs.Map.{entries, from_sorted, if_sorted, empty}
 use Rattle.amr_tables.specs.Places.{value_at, values_of}
-use Rattle.amr_tables.proofs.Numbering.{with_entry}
 use Rattle.amr_tables.specs.Numbered.{Numbered, entry_at, numbered_key, map_of}
 
 module _ {K V : Type 0} (cells : List (Option V)) where
@@ -30,17 +28,13 @@ module _ {K V : Type 0} (cells : List (Option V)) where
 -- ---- what holds of each value holds of each entry
 
 value_passes : {V : Type 0} (p : V → Bool) (cells : List (Option V)) (n : ℕ) (value : V) → T (list_all p (values_of cells)) → value_at cells n ≡ Some value → T (p value)
-value_passes p [] n value all is = absurd (true≢false (sym (ap is_some is)))
-value_passes p (None ∷ cells) zero value all is = absurd (true≢false (sym (ap is_some is)))
-value_passes p (None ∷ cells) (suc n) value all is = value_passes p cells n value all is
-value_passes p (Some first_value ∷ cells) zero value all is = subst (λ v. T (p v)) (ap (λ o. unwrap_or o first_value) is) (first _ _ all)
-value_passes p (Some first_value ∷ cells) (suc n) value all is = value_passes p cells n value (second _ _ all) is
+value_passes p [] n value all is = grind (arith, is)
+value_passes p (cell ∷ cells) zero value all is = grind (arith, all, is)
+value_passes p (cell ∷ cells) (suc n) value all is = let rest = value_passes p cells n value in grind (arith, rest, all, is)
 
 covers : {K V : Type 0} (p : V → Bool) (cells : List (Option V)) (keys : List (K × ℕ)) → T (list_all p (values_of cells)) → T (list_all (λ entry. p entry.1) (filter_map (entry_at cells) keys))
 covers p cells [] all = tt
-covers p cells (key ∷ keys) all =
-    let rest = covers p cells keys all in
-    with_entry (λ l. T (list_all (λ entry. p entry.1) l)) key.0 (value_at cells key.1) _ rest (λ value is. both _ _ (value_passes p cells key.1 value all is) rest)
+covers p cells (key ∷ keys) all = let rest = covers p cells keys all in grind (arith, rest, value_passes p cells key.1, all)
 
 module _ {K V : Type 0} (R : K → K → Ordering) where
   of_entries : (P : List (K × V) → Type 0) (es : List (K × V)) (b : Bool) (e : is_sorted R es ≡ b) → P es → P [] → P (entries (if_sorted es b e empty))

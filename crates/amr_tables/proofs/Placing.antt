@@ -29,10 +29,3 @@ length-push xs x = omega (arith, length_push xs x)
 -- a value that is there already changes nothing
 pub same_value_set : {V : Type 0} (cells : List (Option V)) (n : ℕ) (v : Option V) → value_at cells n ≡ v → cells ≡ slice_set cells n v
 same_value_set cells n v e = sym (ap (slice_set cells n) (sym e ∙ value_read cells n) ∙ set-get_or cells n None)
-
--- a new place has no value
-pub value_push : {V : Type 0} (cells : List (Option V)) (n : ℕ) → value_at (cells ++ None ∷ []) n ≡ value_at cells n
-value_push [] zero = refl
-value_push [] (suc n) = refl
-value_push (c ∷ cells) zero = refl
-value_push (c ∷ cells) (suc n) = value_push cells n

@@ -145,7 +145,7 @@ impl<K: Key + Drop, V: Drop> Keyed<K, V> {
     }
 
     /// Makes an empty place for a key, unless it has one. Returns its number.
-    #[tactic(auto, unfolding(crate::specs::Numbered::has_place))]
+    #[tactic(auto, using(crate::proofs::Numbering::placed), unfolding(crate::specs::Numbered::has_place))]
     pub fn make_place(&mut self, key: K) -> Result<usize, AllocError>
         ensures made { IfOk result (λ number. number_of K.cmp self.new key ≡ Some number) }
         ensures places { KeepsPlaces K.cmp self.old self.new }
@@ -186,6 +186,7 @@ impl<K: Key + Drop, V: Drop> Keyed<K, V> {
 
     /// Swaps the value of the key with a number, or `None` if it has none, with another. It compares
     /// no keys and takes no memory.
+    #[tactic(auto, using(crate::proofs::Numbering::shown), unfolding(crate::specs::Numbered::has_place))]
     pub fn swap_at(&mut self, number: usize, value: &mut Option<V>)
         requires { IsNumber K.cmp self.old number }
         ensures former { IsValueOf K.cmp self.old number value.new }

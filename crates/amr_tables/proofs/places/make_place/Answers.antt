@@ -1,15 +1,11 @@
-use Rattle.std.proofs.Common.{◌≡◌, ◌-◌, ◌+◌, ◌++◌, ◌∷◌, [], List, None, length, length-append, replicate, arith, ap, ◌∙◌}
+use Rattle.std.proofs.Common.{◌≡◌, ℕ, ◌-◌, ◌++◌, ◌∷◌, [], List, None, length, length-append, replicate, refl, arith}
 use Rattle.std.proofs.lemmas.Grind.{replicate_next}
-use Rattle.std.proofs.lemmas.List.{append_assoc, length-replicate}
+use Rattle.std.proofs.lemmas.List.{append_assoc, length_push}
 use Rattle.amr_tables.proofs.places.make_place.Goals as goal
 
-one_more : {X : Type 0} (old places : List X) (none : X) → places ≡ old ++ replicate (length places - length old) none
+one_more : {X : Type 0} (old places : List X) (none : X) (added : ℕ) → added ≡ length places - length old → places ≡ old ++ replicate added none
     → places ++ none ∷ [] ≡ old ++ replicate (length (places ++ none ∷ []) - length old) none
-one_more old places none is =
-    let added = length places - length old in
-    let count = ap length is ∙ length-append old (replicate added none) in
-    let more : length (places ++ none ∷ []) - length old ≡ added + 1 = omega (arith, count, length-append places (none ∷ []), length-replicate added none) in
-    cc (append_assoc old (replicate added none) (none ∷ []), replicate_next added none)
+one_more old places none added count is = grind (arith, append_assoc old (replicate added none) (none ∷ []), replicate_next added none, length-append old (replicate added none), length_push places none, count, is)
 
 pub loop-places-preserved : goal.loop-places-preserved
-loop-places-preserved g c = rw c.in_ok-push.ensures.items (one_more c.args.places.now.items c.loop-places.places.items None c.loop-places.invariant)
+loop-places-preserved g c = rw c.in_ok-push.ensures.items (one_more c.args.places.now.items c.loop-places.places.items None _ refl c.loop-places.invariant)
