@@ -1,5 +1,5 @@
 -- Laws of records that lie one after another in one list.
-use Rattle.std.proofs.Common.{◌≡◌, ◌-◌, ◌≤◌, ◌<◌, List, [], ◌∷◌, ◌++◌, length, take, drop, map, refl, sym, ap, ◌∙◌, arith, ℕ, Some, get_or}
+use Rattle.std.proofs.Common.{◌≡◌, ◌-◌, ◌≤◌, ◌<◌, List, [], ◌∷◌, ◌++◌, length, take, drop, map, refl, ap, arith, ℕ, Some, get_or}
 use Rattle.std.specs.Prelude.{suc, sum, slice_get, option_map}
 use Rattle.std.proofs.lemmas.List.{take-append-le, drop-append-le, drop-drop, length-drop, length-take-le, length_push, take_rest, take_all}
 use Rattle.std.proofs.lemmas.List.Sums.{sum_by-cons, sum_by_push}
@@ -12,9 +12,8 @@ module _ {E : Type 0} where
   unfolding records_of
   records_before [] xs ys fits = refl
   records_before (n ∷ sizes) xs ys fits =
-      let all = sum_by-cons (λ x. x) n sizes in
-      let within : n ≤ length xs = omega (arith, all) in
-      cc (take-append-le n xs ys within, drop-append-le n xs ys within, records_before sizes (drop n xs) ys (omega (arith, all, length-drop n xs)))
+      let rest = records_before sizes (drop n xs) ys in
+      grind (arith, rest, sum_by-cons (λ x. x) n sizes, take-append-le n xs ys, drop-append-le n xs ys, length-drop n xs, fits)
 
   pub records_before_last : (sizes : List ℕ) (opened : ℕ) (xs : List E) (x : E) → opened ≡ sum sizes → 0 < length (drop opened (xs ++ x ∷ [])) → records_of sizes (xs ++ x ∷ []) ≡ records_of sizes xs
   records_before_last sizes opened xs x at some_open =
@@ -32,17 +31,14 @@ module _ {E : Type 0} where
   -- The last closed record takes all that is left, if the open one is empty.
   pub reopened_last : (sizes : List ℕ) (n opened : ℕ) (xs : List E) → opened ≡ sum (sizes ++ n ∷ []) → drop opened xs ≡ [] → records_of (sizes ++ n ∷ []) xs ≡ records_of sizes xs ++ drop (opened - n) xs ∷ []
   reopened_last sizes n opened xs at none_open =
-      let total = sum_by_push (λ k. k) sizes n in
-      let start : sum sizes ≡ opened - n = omega (arith, at, total) in
-      let all = sym (length-drop opened xs) ∙ ap length none_open in
-      cc (one_more_record sizes n xs, start, take_all n (drop (opened - n) xs) (omega (arith, length-drop (opened - n) xs, all, at, total)))
+      grind (arith, one_more_record sizes n xs, sum_by_push (λ k. k) sizes n, take_all n (drop (opened - n) xs), length-drop (opened - n) xs, length-drop opened xs, at, none_open)
 
   pub lengths_are_sizes : (sizes : List ℕ) (xs : List E) → sum sizes ≤ length xs → map length (records_of sizes xs) ≡ sizes
   unfolding records_of
   lengths_are_sizes [] xs fits = refl
   lengths_are_sizes (n ∷ sizes) xs fits =
-      let all = sum_by-cons (λ x. x) n sizes in
-      cc (length-take-le n xs (omega (arith, all)), lengths_are_sizes sizes (drop n xs) (omega (arith, all, length-drop n xs)))
+      let rest = lengths_are_sizes sizes (drop n xs) in
+      grind (arith, rest, sum_by-cons (λ x. x) n sizes, length-take-le n xs, length-drop n xs, fits)
 
   pub count_of_records : (sizes : List ℕ) (xs : List E) → length (records_of sizes xs) ≡ length sizes
   unfolding records_of

@@ -1,4 +1,4 @@
-use Rattle.std.proofs.Common.{◌≡◌, ◌++◌, ◌∷◌, [], map, sym, ap, ◌∙◌}
+use Rattle.std.proofs.Common.{◌≡◌, map, ap, ◌∙◌, arith}
 use Rattle.std.proofs.lemmas.List.{map-append, take_all}
 use Rattle.amr_tables.specs.Numbered.{numbered_key}
 use Rattle.amr_tables.proofs.Counting.{counted, counted-more, sorted_is}
@@ -6,11 +6,7 @@ use Rattle.amr_tables.proofs.numbers.Numbers.sorted.Goals as goal
 
 pub loop-number-preserved : goal.loop-number-preserved
 loop-number-preserved g c =
-    let number = c.loop-number.number in
-    let key = c.key-item.result in
-    ap (map numbered_key) c.in_ok-push.ensures.items ∙ map-append numbered_key c.loop-number.sorted.items _
-    ∙ ap (λ es. es ++ (key, number) ∷ []) c.loop-number.invariant
-    ∙ sym (counted-more c.as_slice-key-items.result.now number key c.loop-number-test.true c.key-item.is)
+    grind (arith, map-append numbered_key c.loop-number.sorted.items, counted-more c.as_slice-key-items.result.now c.loop-number.number c.key-item.result c.loop-number-test.true c.key-item.is)
 
 pub returns : goal.returns
 returns g c =
