@@ -14,7 +14,8 @@ use Rattle.amr_tables.specs.Places.{value_at, values_of}
 use Rattle.amr_tables.specs.Tournament.{Tournament, timer_cmp, winner_at, first_of, IsTournament}
 use Rattle.amr_tables.specs.Tournament as tournament
 use Rattle.amr_tables.specs.Earliest.{Earliest, changed_back, StandsIn, Stands, IsHeld, IsCurrent, AreAmong, IsFrontCurrent, is_in_order, IsQueue, AreKept, IsOrdered, IsEarliest, AgreeOn}
-use Rattle.amr_tables.proofs.Placing.{value_set, value_apart, value_past}
+use Rattle.amr_tables.proofs.Placing.{value_past}
+use Rattle.amr_tables.proofs.Present.{get_set}
 use Rattle.amr_tables.proofs.Playing.{timer_total, not_after_back, itself, not_before, winner_first, none_earlier, tournament_agrees}
 
 -- ---- the winner of the rest
@@ -96,34 +97,28 @@ module _ (rank : ℕ → ℕ → Ordering) (order : IsTotalOrder rank) where
 -- ---- a winner that isn't current leaves
 
 fewer_values : (moments : List (Option ℕ)) (n : ℕ) → value_at moments n ≢ None → length (values_of (slice_set moments n None)) < length (values_of moments)
-fewer_values [] n some = absurd (some refl)
-fewer_values (None ∷ moments) zero some = absurd (some refl)
-fewer_values (Some x ∷ moments) zero some = omega arith
-fewer_values (None ∷ moments) (suc n) some = fewer_values moments n some
-fewer_values (Some x ∷ moments) (suc n) some = let less = fewer_values moments n some in omega (arith, less)
+fewer_values [] n some = grind (arith, some)
+fewer_values (v ∷ moments) zero some = grind (arith, some)
+fewer_values (v ∷ moments) (suc n) some = let less = fewer_values moments n some in grind (arith, less)
 
 module _ (e u : Earliest) (n : ℕ) (queue : u.queue ≡ e.queue) (set : u.rest.moments ≡ slice_set e.rest.moments n None) (wins : first_of e.rest ≡ Some n) where
   pub winner_leaves_fewer : length (values_of u.rest.moments) < length (values_of e.rest.moments)
   winner_leaves_fewer = rw set (fewer_values e.rest.moments n (first_wins e.rest n wins).1)
 
   now : (k : ℕ) → tournament.moment_at u.rest k ≡ (if k == n then None else tournament.moment_at e.rest k)
-  now k = ap (λ l. value_at l k) set ∙ grind (arith, nat_tests, value_set e.rest.moments n None, value_apart e.rest.moments n k None, first_within e.rest n wins)
+  now k = grind (arith, nat_tests, set, get_set e.rest.moments n None (first_within e.rest n wins) k)
 
   pub held_without_winner : (k : ℕ) → IsHeld u k → IsHeld e k
-  held_without_winner k (m, stands) = (m, ⊎_map (subst (λ l. StandsIn l (record { moment = m; number = k })) queue) (λ h. stood (tournament.moment_at e.rest k) (sym (now k) ∙ h)) stands)
-    where
-      stood : (x : Option ℕ) → (if k == n then None else x) ≡ Some m → x ≡ Some m
-      stood x is = grind (arith, is)
+  held_without_winner k (m, stands) =
+      let before : Stands e (record { moment = m; number = k }) = grind (arith, queue, now k, stands) in
+      (m, before)
 
   pub winner_leaves : (rank : ℕ → ℕ → Ordering) (moments : ℕ → Option ℕ) → tournament.moment_at e.rest n ≢ moments n → IsTournament rank u.rest → AreKept rank moments e → AreKept rank moments u
   winner_leaves rank moments outdated played kept = record {
-    queue = subst (IsQueue rank) (sym queue) kept.queue;
+    queue = rw queue kept.queue;
     rest = played;
-    stands = λ s at. ⊎_map (subst (λ l. StandsIn l s) (sym queue)) (λ h. now s.number ∙ stays (tournament.moment_at e.rest) s.number s.moment outdated h at) (kept.stands s at);
+    stands = λ s at. grind (arith, nat_tests, queue, now s.number, kept.stands s at, outdated, at);
   }
-    where
-      stays : (were : ℕ → Option ℕ) (k m : ℕ) → were n ≢ moments n → were k ≡ Some m → moments k ≡ Some m → (if k == n then None else were k) ≡ Some m
-      stays were k m outdated stood at = grind (arith, nat_tests, outdated, stood, at)
 
 -- ---- a number gets another moment
 
@@ -134,10 +129,9 @@ module _ (moments : ℕ → Option ℕ) (n : ℕ) where
 
   -- a moment that it has already changes nothing
   pub changed_nothing : (former : Option ℕ) → moments n ≡ former → changed_back moments n former ≡ moments
-  changed_nothing former is = λ i k. each k i
-    where
-      each : (k : ℕ) → changed_back moments n former k ≡ moments k
-      each k = grind (arith, nat_tests, is)
+  changed_nothing former is =
+      let each : (k : ℕ) → changed_back moments n former k ≡ moments k = λ k. grind (arith, nat_tests, is) in
+      λ i k. each k i
 
   -- without its moment, the others have theirs
   pub others_former : (former : Option ℕ) → AreAmong (changed_back moments n None) (changed_back moments n former)

@@ -1,5 +1,5 @@
 -- The values of a table that are listed with their keys, or alone.
-use Rattle.std.proofs.Common.{◌≡◌, ℕ, zero, suc, ◌+◌, ◌<◌, T, Bool, true, false, List, [], ◌∷◌, ◌++◌, Option, None, Some, length, map, take, get_or, refl, sym, ap, ◌∙◌, append-nil, arith}
+use Rattle.std.proofs.Common.{◌≡◌, ℕ, zero, suc, ◌+◌, ◌<◌, T, Bool, true, false, List, [], ◌∷◌, ◌++◌, Option, Some, length, map, take, get_or, refl, sym, ap, ◌∙◌, arith}
 use Rattle.std.specs.Prelude.{option_map}
 use Rattle.std.specs.Borrow.{Bor}
 use Rattle.std.specs.FinMap.{is_sorted}
@@ -11,19 +11,13 @@ use Rattle.amr_labels.specs.Map.{entries, from_sorted, if_sorted, empty}
 use Rattle.amr_tables.specs.Places.{value_at, values_of}
 use Rattle.amr_tables.specs.Numbered.{Numbered, entry_at, numbered_key, map_of}
 
-module _ {K V : Type 0} (cells : List (Option V)) where
-  -- one key more
-  pub listed_more : (items : List (Bor K × ℕ)) (i : ℕ) (item : Bor K × ℕ) → i < length items → item ≡ get_or items i item → filter_map (entry_at cells) (map numbered_key (take (i + 1) items)) ≡ filter_map (entry_at cells) (map numbered_key (take i items)) ++ cons_option (entry_at cells (numbered_key item)) []
-  listed_more items i item lt is =
-      ap (λ xs. filter_map (entry_at cells) (map numbered_key xs)) (take_more items i item lt ∙ ap (λ x. take i items ++ x ∷ []) (sym is))
-      ∙ ap (filter_map (entry_at cells)) (map-append numbered_key (take i items) (item ∷ []))
-      ∙ filter_map-append (entry_at cells) (map numbered_key (take i items)) (numbered_key item ∷ [])
-
-  pub with_value : (es : List (K × V)) (key : K × ℕ) (value : V) → value_at cells key.1 ≡ Some value → es ++ (key.0, value) ∷ [] ≡ es ++ cons_option (entry_at cells key) []
-  with_value es key value is = ap (λ (o : Option V). es ++ cons_option (option_map (λ v. (key.0, v)) o) []) (sym is)
-
-  pub without_value : (es : List (K × V)) (key : K × ℕ) → value_at cells key.1 ≡ None → es ≡ es ++ cons_option (entry_at cells key) []
-  without_value es key is = sym (append-nil es) ∙ ap (λ (o : Option V). es ++ cons_option (option_map (λ v. (key.0, v)) o) []) (sym is)
+-- one key more, with its value if it has one
+pub listed_more : {K V : Type 0} (cells : List (Option V)) (items : List (Bor K × ℕ)) (i : ℕ) (item : Bor K × ℕ) (value : Option V) {before after : List (K × V)} → i < length items → item ≡ get_or items i item → value ≡ value_at cells item.1
+    → before ≡ filter_map (entry_at cells) (map numbered_key (take i items)) → after ≡ before ++ cons_option (option_map (λ v. (item.0.now, v)) value) [] → after ≡ filter_map (entry_at cells) (map numbered_key (take (i + 1) items))
+listed_more cells items i item value within is found listed more =
+    more ∙ (λ j. listed j ++ cons_option (option_map (λ v. (item.0.now, v)) (found j)) [])
+    ∙ sym (filter_map-append (entry_at cells) (map numbered_key (take i items)) (numbered_key item ∷ []))
+    ∙ sym (ap (filter_map (entry_at cells)) (ap (map numbered_key) (take_more items i item within ∙ ap (λ x. take i items ++ x ∷ []) (sym is)) ∙ map-append numbered_key (take i items) (item ∷ [])))
 
 -- ---- what holds of each value holds of each entry
 

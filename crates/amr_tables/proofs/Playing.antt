@@ -1,8 +1,8 @@
 -- A tournament of numbers by their moments: who wins it, and what a new moment changes.
-use Rattle.std.proofs.Common.{◌≡◌, ◌≢◌, inl, inr, ℕ, suc, zero, ◌+◌, ◌-◌, ◌*◌, ◌/◌, ◌<◌, ◌≤◌, Bool, true, false, nat_lt, List, Option, Some, None, length, get_or, slice_set, refl, sym, ap, subst, ◌∙◌, arith}
+use Rattle.std.proofs.Common.{◌≡◌, ◌≢◌, inl, ℕ, suc, zero, ◌+◌, ◌-◌, ◌*◌, ◌/◌, ◌<◌, ◌≤◌, true, false, List, Option, Some, None, length, slice_set, refl, sym, ap, subst, ◌∙◌, arith}
 use Rattle.std.specs.Prelude.{◌==◌, if◌then◌else◌, ◌⊎◌, option_map}
 use Rattle.std.specs.Option.{option_cmp}
-use Rattle.std.proofs.lemmas.Bool.{cases_eq, true≢false}
+use Rattle.std.proofs.lemmas.Bool.{cases_eq}
 use Rattle.std.proofs.lemmas.Bool.Decides.{nat_tests}
 use Rattle.std.proofs.lemmas.List.{get_or-set_same, get_or-set_other}
 use Rattle.std.proofs.Math.Arith.{bin_ind}
@@ -14,7 +14,7 @@ use Rattle.std.specs.Cmp.Lexicographic.{options_total}
 use Rattle.std.proofs.lemmas.Cmp.{on_total, then_total, back_total, tied_itself, upto}
 use Rattle.amr_tables.specs.Places.{value_at}
 use Rattle.amr_tables.specs.Tournament.{Tournament, moment_at, timer_at, winner_at, timer_cmp, later_winner, IsTournament, AgreeOn}
-use Rattle.amr_tables.proofs.Placing.{value_apart, value_within}
+use Rattle.amr_tables.proofs.Placing.{value_apart, value_past, value_within}
 
 -- ---- the order of timers
 
@@ -26,10 +26,7 @@ pub timer_total : {rank : ℕ → ℕ → Ordering} → IsTotalOrder rank → Is
 timer_total {rank} order = subst IsTotalOrder (λ i x y. is x y i) (back_total (on_total timed (options_total (back_total (then_total (on_total (λ (x : ℕ × ℕ). x.0) nat_cmp_total) (on_total (λ (x : ℕ × ℕ). x.1) order))))))
   where
     is : (x y : Option ℕ × ℕ) → option_cmp (λ (a b : ℕ × ℕ). ordering_then (nat_cmp b.0 a.0) (rank b.1 a.1)) (timed y) (timed x) ≡ timer_cmp rank x y
-    is (Some m, a) (Some n, b) = refl
-    is (Some m, a) (None, b) = refl
-    is (None, a) (Some n, b) = refl
-    is (None, a) (None, b) = refl
+    is x y = grind arith
 
 -- ---- who is not after whom
 
@@ -51,17 +48,6 @@ not_before m x r h = grind (arith, nat_tests, h)
 
 -- ---- who wins
 
--- what is so of the two nodes below the half of a node is so of the node
-of_half : (P : ℕ → Type 0) (n : ℕ) → P (n / 2 * 2) × P (n / 2 * 2 + 1) → P n
-of_half P n both = by halves
-  where
-    halves : (n / 2 * 2 ≡ n) ⊎ (n / 2 * 2 + 1 ≡ n)
-    halves = grind arith
-
-    by : (n / 2 * 2 ≡ n) ⊎ (n / 2 * 2 + 1 ≡ n) → P n
-    by (inl e) = subst P e both.0
-    by (inr e) = subst P e both.1
-
 own_node : (t : Tournament) (n : ℕ) → winner_at t (length t.moments + n) ≡ n
 own_node t n = grind (arith, nat_tests)
 
@@ -74,62 +60,42 @@ module _ (rank : ℕ → ℕ → Ordering) (t : Tournament) (order : IsTotalOrde
 
   -- the winner of the first node is not after that of any other
   first_of : (p : ℕ) → 1 ≤ p → p < length t.moments + length t.moments → is_gt (cmp (winner_at t 1) (winner_at t p)) ≡ false
-  first_of = bin_ind (λ p. 1 ≤ p → p < length t.moments + length t.moments → is_gt (cmp (winner_at t 1) (winner_at t p)) ≡ false) (λ one. absurd (omega arith)) (λ p half one inner. by p (cases_eq p 1) half inner one)
-    where
-      by : (p : ℕ) → (p ≡ 1) ⊎ (p ≢ 1) → (1 ≤ p / 2 → p / 2 < length t.moments + length t.moments → is_gt (cmp (winner_at t 1) (winner_at t (p / 2))) ≡ false) → p < length t.moments + length t.moments → 1 ≤ p
-          → is_gt (cmp (winner_at t 1) (winner_at t p)) ≡ false
-      by p (inl e) half inner one = rw e (itself total (winner_at t 1))
-      by p (inr other) half inner one =
-          upto total _ _ _ (half (omega arith) (omega arith))
-          (of_half (λ n. is_gt (cmp (winner_at t (p / 2)) (winner_at t n)) ≡ false) p (over_both total _ _ _ (played (p / 2) (omega arith) (omega arith))))
+  first_of = bin_ind (λ p. 1 ≤ p → p < length t.moments + length t.moments → is_gt (cmp (winner_at t 1) (winner_at t p)) ≡ false) (λ one. absurd (omega arith)) (λ p half one inner.
+      let halves : (p / 2 * 2 ≡ p) ⊎ (p / 2 * 2 + 1 ≡ p) = grind arith in
+      let over = λ (some : 1 ≤ p / 2) (small : p / 2 < length t.moments). over_both total _ _ _ (played (p / 2) some small) in
+      grind (arith, cases_eq p 1, halves, half, over, upto total (winner_at t 1) (winner_at t (p / 2)) (winner_at t p), itself total (winner_at t 1), one, inner))
 
   first_of_all : (n : ℕ) → n < length t.moments → is_gt (cmp (winner_at t 1) n) ≡ false
   first_of_all n within = subst (λ x. is_gt (cmp (winner_at t 1) x) ≡ false) (own_node t n) (first_of (length t.moments + n) (omega arith) (omega arith))
 
   -- a winner that has a moment is not after any other number
   pub winner_first : (moment other x : ℕ) → moment_at t (winner_at t 1) ≡ Some moment → moment_at t other ≡ Some x → is_gt (timer_cmp rank (Some moment, winner_at t 1) (Some x, other)) ≡ false
-  winner_first moment other x is at = subst (λ (p : Option ℕ × Option ℕ). is_gt (timer_cmp rank (p.0, winner_at t 1) (p.1, other)) ≡ false) (λ i. (is i, at i)) (first_of_all other (value_within t.moments other x at))
+  winner_first moment other x is at = grind (arith, first_of_all other (value_within t.moments other x at), is, at)
 
   -- a winner without a moment has beaten none that has one
   pub none_earlier : moment_at t (winner_at t 1) ≡ None → (n : ℕ) → moment_at t n ≡ None
-  none_earlier none n = by (moment_at t n) refl
-    where
-      by : (m : Option ℕ) → moment_at t n ≡ m → m ≡ None
-      by None at = refl
-      by (Some m) at = absurd (true≢false (subst (λ (p : Option ℕ × Option ℕ). is_gt (timer_cmp rank (p.0, winner_at t 1) (p.1, n)) ≡ false) (λ i. (none i, at i)) (first_of_all n (value_within t.moments n m at))))
+  none_earlier none n = grind (arith, first_of_all n, value_past t.moments n, none)
 
 -- ---- what a new winner changes
-
--- a node that was played has its winner, and the others keep theirs
-noted : (t : Tournament) (node w j : ℕ) → node < length t.moments → length t.winners ≡ length t.moments → winner_at (record t { winners = slice_set t.winners node w }) j ≡ (if j == node then w else winner_at t j)
-noted t node w j inner nodes = grind (arith, nat_tests, get_or-set_same t.winners node w 0, get_or-set_other t.winners node j w 0, inner, nodes)
 
 -- who wins of two numbers
 abbrev better : (ℕ → ℕ → Ordering) → List (Option ℕ) → ℕ → ℕ → ℕ
 better rank moments l r = if is_lt (timer_cmp rank (value_at moments r, r) (value_at moments l, l)) then r else l
 
--- only who wins the nodes below a node and their moments matter
-later_alike : (rank : ℕ → ℕ → Ordering) {moments : List (Option ℕ)} (u : Tournament) → u.moments ≡ moments → (j : ℕ) → later_winner rank u j ≡ better rank moments (winner_at u (j * 2)) (winner_at u (j * 2 + 1))
-later_alike rank u are j = ap (λ ms. better rank ms (winner_at u (j * 2)) (winner_at u (j * 2 + 1))) are
-
 -- after a match was played that node has its winner, and the others keep theirs
-pub now : (rank : ℕ → ℕ → Ordering) {moments : List (Option ℕ)} (u v : Tournament) (node k : ℕ) → u.moments ≡ moments → v ≡ record u { winners = slice_set u.winners node (later_winner rank u node) } → node < length u.moments → length u.winners ≡ length u.moments
+pub now : (rank : ℕ → ℕ → Ordering) {moments : List (Option ℕ)} (u v : Tournament) (node k : ℕ) → u.moments ≡ moments → v.moments ≡ u.moments → v.winners ≡ slice_set u.winners node (later_winner rank u node) → node < length u.moments → length u.winners ≡ length u.moments
     → winner_at v k ≡ (if k == node then better rank moments (winner_at u (node * 2)) (winner_at u (node * 2 + 1)) else winner_at u k)
-now rank u v node k are is inner nodes =
-    ap (λ (x : Tournament). winner_at x k) is ∙ noted u node (later_winner rank u node) k inner nodes
-    ∙ ap (λ w. if k == node then w else winner_at u k) (later_alike rank u are node)
+now rank u v node k are kept noted inner nodes =
+    grind (arith, nat_tests, get_or-set_same u.winners node (later_winner rank u node) 0, get_or-set_other u.winners node k (later_winner rank u node) 0, are, kept, noted, inner, nodes)
 
 -- after the last nodes a node was played
-pub played_from : (rank : ℕ → ℕ → Ordering) (t u : Tournament) (node : ℕ) → u ≡ record t { winners = slice_set t.winners node (later_winner rank t node) } → 1 ≤ node → node < length t.moments → length t.winners ≡ length t.moments
+pub played_from : (rank : ℕ → ℕ → Ordering) (t u : Tournament) (node : ℕ) → u.moments ≡ t.moments → u.winners ≡ slice_set t.winners node (later_winner rank t node) → node < length t.moments → length t.winners ≡ length t.moments
     → ((j : ℕ) → 1 ≤ j → node < j → j < length t.moments → winner_at t j ≡ later_winner rank t j)
     → (j : ℕ) → 1 ≤ j → node ≤ j → j < length u.moments → winner_at u j ≡ later_winner rank u j
-played_from rank t u node is one inner nodes played j some from within =
-    by (winner_at t) (winner_at u) (better rank t.moments) (λ k. now rank t u node k refl is inner nodes) (played j some) (omega (arith, ap length moments))
-    ∙ sym (later_alike rank u moments j)
+played_from rank t u node kept noted inner nodes played j some from within =
+    by (winner_at t) (winner_at u) (better rank t.moments) (λ k. now rank t u node k refl kept noted inner nodes) (played j some) (omega (arith, ap length kept))
+    ∙ ap (λ ms. better rank ms (winner_at u (j * 2)) (winner_at u (j * 2 + 1))) (sym kept)
   where
-    moments : u.moments ≡ t.moments
-    moments = ap (λ (x : Tournament). x.moments) is
-
     by : (W V : ℕ → ℕ) (pick : ℕ → ℕ → ℕ) → ((k : ℕ) → V k ≡ (if k == node then pick (W (node * 2)) (W (node * 2 + 1)) else W k)) → (node < j → j < length t.moments → W j ≡ pick (W (j * 2)) (W (j * 2 + 1))) → j < length t.moments
         → V j ≡ pick (V (j * 2)) (V (j * 2 + 1))
     by W V pick now played inner = grind (arith, nat_tests, now j, now (j * 2), now (j * 2 + 1), played, inner)
@@ -179,22 +145,9 @@ module _ {W : ℕ → ℕ} {N : ℕ} (pick : ℕ → ℕ → ℕ) (picked : (l r
 
 pub begun : (rank : ℕ → ℕ → Ordering) (t : Tournament) (n : ℕ) (moment : Option ℕ) → length (slice_set t.moments n moment) ≡ length t.moments → IsTournament rank t
     → IsClimbed rank n (record t { moments = slice_set t.moments n moment }) (record t { moments = slice_set t.moments n moment }) (length (slice_set t.moments n moment) + n)
-begun rank t n moment len played = from_own (better rank t.moments) picked own
-    (subst (λ N. (j : ℕ) → 1 ≤ j → j < N → wins N j ≡ better rank t.moments (wins N (j * 2)) (wins N (j * 2 + 1))) (sym len) played) n _ (λ l r left right i.
+begun rank t n moment len played = from_own (better rank t.moments) (λ l r. grind arith) (λ p past. grind (arith, nat_tests, past))
+    (λ j one inner. grind (arith, nat_tests, played j one, len, inner)) n _ (λ l r left right i.
     if is_lt (timer_cmp rank (sym (value_apart t.moments n r moment right) i, r) (sym (value_apart t.moments n l moment left) i, l)) then r else l)
-  where
-    wins : ℕ → ℕ → ℕ
-    wins N p = if nat_lt p N then get_or t.winners p 0 else p - N
-
-    own : (p : ℕ) → length (slice_set t.moments n moment) ≤ p → wins (length (slice_set t.moments n moment)) p ≡ p - length (slice_set t.moments n moment)
-    own p past = grind (arith, nat_tests, past)
-
-    picked : (l r : ℕ) → (better rank t.moments l r ≡ l) ⊎ (better rank t.moments l r ≡ r)
-    picked l r = by (is_lt _)
-      where
-        by : (b : Bool) → ((if b then r else l) ≡ l) ⊎ ((if b then r else l) ≡ r)
-        by true = inr refl
-        by false = inl refl
 
 module _ {W V : ℕ → ℕ} {pick : ℕ → ℕ → ℕ} {n N node : ℕ} (c : Climbed W V pick n N node) where
   -- another number wins this node as before, so all matches above stand

@@ -11,5 +11,5 @@ loop-self-preserved g c =
     record {
       rest = rest ∙ c.loop-self.invariant.rest;
       queue = λ s stands. c.loop-self.invariant.queue s (stood_last _ c.pop_back.new.self.items _ items s stands);
-      kept = λ rank moments among kept. last_leaves now rank rest moments among _ items (subst (IsOutdated now) c.last.ensures (c.is_outdated.ensures.outdated c.loop-self-test.true)) (c.loop-self.invariant.kept rank moments among kept);
+      kept = λ rank moments among kept. last_leaves now rank rest _ moments among items (subst (IsOutdated now) c.last.ensures (c.is_outdated.ensures.outdated c.loop-self-test.true)) (c.loop-self.invariant.kept rank moments among kept);
     }

@@ -7,10 +7,9 @@ use Rattle.amr_tables.proofs.earliest.Earliest.insert_before.Goals as goal
 
 pub returns-then-are_in_order-clause-kept : goal.returns-then-are_in_order-clause-kept
 returns-then-are_in_order-clause-kept g c =
-    let rank = g.S.Schedule.rank c.args.schedule.now in
-    kept_first (g.S.Schedule.moments c.args.schedule.now) c.args.standing c.requires.current c.args.self.now rank
-    ((λ i. record { queue = c.push_front_reserved.ensures.items i; rest = c.self.inside.rest }) ∙ ap (λ (x : Earliest). record { queue = c.args.standing ∷ x.queue; rest = x.rest }) c.self.view_is)
-    (ap (λ (o : Option NumberedMoment). are_in_order rank (Some c.args.standing) o) (sym c.front.ensures) ∙ sym c.are_in_order.ensures ∙ c.if-are_in_order.true) c.requires.kept
+    kept_first (g.S.Schedule.moments c.args.schedule.now) c.args.standing c.requires.current c.args.self.now _ (ap (λ (x : Earliest). x.rest) c.self.view_is) (g.S.Schedule.rank c.args.schedule.now)
+    (c.push_front_reserved.ensures.items ∙ ap (λ (x : Earliest). c.args.standing ∷ x.queue) c.self.view_is)
+    (ap (λ (o : Option NumberedMoment). are_in_order (g.S.Schedule.rank c.args.schedule.now) (Some c.args.standing) o) (sym c.front.ensures) ∙ sym c.are_in_order.ensures ∙ c.if-are_in_order.true) c.requires.kept
 
 pub returns-else-has_room-clause-held : goal.returns-else-has_room-clause-held
 returns-else-has_room-clause-held g c =

@@ -15,6 +15,6 @@ loop-node-preserved g c =
       moments = c.play.ensures.moments ∙ c.loop-node.invariant.moments;
       inner = omega (arith, inner, ap length c.play.ensures.moments);
       nodes = ap length c.play.ensures.winners ∙ length-set t.winners node (later_winner rank t node) ∙ c.loop-node.invariant.nodes ∙ sym (ap length c.play.ensures.moments);
-      played = played_from rank t c.play.new.self node (λ i. record { moments = c.play.ensures.moments i; winners = c.play.ensures.winners i }) one inner c.loop-node.invariant.nodes
+      played = played_from rank t c.play.new.self node c.play.ensures.moments c.play.ensures.winners inner c.loop-node.invariant.nodes
           (λ j some after within. c.loop-node.invariant.played j some (omega (arith, after, one)) within);
     }

@@ -32,7 +32,7 @@ module _ (g : Over) (c : After-play-former g) where
 
   climbed : IsClimbed (g.S.Schedule.rank c.args.schedule.now) c.args.number (record { moments = slice_set c.self.inside.moments.items c.args.number c.args.moment; winners = c.self.inside.winners.items }) c.play-former.new.self (c.loop-node.node / 2)
   climbed = climbs c.loop-node.invariant.climbed bounds.0 inner (λ k.
-      now _ c.loop-node.self c.play-former.new.self _ k c.loop-node.invariant.moments (λ i. record { moments = c.play-former.ensures.moments i; winners = c.play-former.ensures.winners i }) bounds.1 c.loop-node.invariant.nodes)
+      now _ c.loop-node.self c.play-former.new.self _ k c.loop-node.invariant.moments c.play-former.ensures.moments c.play-former.ensures.winners bounds.1 c.loop-node.invariant.nodes)
 
 pub loop-node-preserved : goal.loop-node-preserved
 loop-node-preserved g c =
