@@ -14,7 +14,7 @@ use Rattle.amr_tables.specs.Places.{value_at, values_of}
 use Rattle.amr_tables.specs.Tournament.{Tournament, timer_cmp, winner_at, first_of, IsTournament}
 use Rattle.amr_tables.specs.Tournament as tournament
 use Rattle.amr_tables.specs.Earliest.{Earliest, changed_back, StandsIn, Stands, IsHeld, IsCurrent, AreAmong, IsFrontCurrent, is_in_order, IsQueue, AreKept, IsOrdered, IsEarliest, AgreeOn}
-use Rattle.amr_tables.proofs.Placing.{value_past}
+use Rattle.std.proofs.lemmas.Option.{slice_get_past}
 use Rattle.amr_tables.proofs.Present.{get_set}
 use Rattle.amr_tables.proofs.Playing.{timer_total, not_after_back, itself, not_before, winner_first, none_earlier, tournament_agrees}
 
@@ -24,7 +24,7 @@ first_wins : (t : Tournament) (n : ℕ) → first_of t ≡ Some n → (winner_at
 first_wins t n is = (grind (arith, is), λ none. grind (arith, is, none))
 
 pub first_within : (t : Tournament) (n : ℕ) → first_of t ≡ Some n → n < length t.moments
-first_within t n is = let has = (first_wins t n is).1 in grind (arith, value_past t.moments n, has)
+first_within t n is = let has = (first_wins t n is).1 in grind (arith, slice_get_past t.moments n, has)
 
 module _ (rank : ℕ → ℕ → Ordering) (order : IsTotalOrder rank) where
   abbrev NotAfter : NumberedMoment → NumberedMoment → Type 0
@@ -53,12 +53,10 @@ module _ (rank : ℕ → ℕ → Ordering) (order : IsTotalOrder rank) where
 
       winner_least : (v : NumberedMoment) → first_of e.rest ≡ Some v.number → tournament.moment_at e.rest v.number ≡ Some v.moment
           → IsCurrent moments v × ((s : NumberedMoment) → tournament.moment_at e.rest s.number ≡ Some s.moment → NotAfter v s)
-      winner_least v wins at =
-          let is = (first_wins e.rest v.number wins).0 in (
-            sym (ordered.winner v.number wins) ∙ at,
-            λ s there. subst (λ n. is_gt (timer_cmp rank (Some v.moment, n) (Some s.moment, s.number)) ≡ false) is
-                (winner_first rank e.rest order ordered.kept.rest v.moment s.number s.moment (ap (tournament.moment_at e.rest) is ∙ at) there),
-          )
+      winner_least v wins at = (
+        grind (arith, ordered.winner v.number wins, at),
+        λ s there. grind (arith, winner_first rank e.rest order ordered.kept.rest v.moment s.number s.moment, first_wins e.rest v.number wins, at, there),
+      )
 
       no_winner : first_of e.rest ≡ None → (s : NumberedMoment) → tournament.moment_at e.rest s.number ≡ Some s.moment → ⊥
       no_winner is s at = none-some s.moment (sym (none_earlier rank e.rest order ordered.kept.rest (grind (arith, is)) s.number) ∙ at)
@@ -134,18 +132,11 @@ module _ (moments : ℕ → Option ℕ) (n : ℕ) where
       λ i k. each k i
 
   -- without its moment, the others have theirs
-  pub others_former : (former : Option ℕ) → AreAmong (changed_back moments n None) (changed_back moments n former)
-  others_former former s at = grind (arith, at)
+  pub without : (rank : ℕ → ℕ → Ordering) (former : Option ℕ) (e : Earliest) → AreKept rank (changed_back moments n former) e → AreKept rank (changed_back moments n None) e
+  without rank former e kept = record { queue = kept.queue; rest = kept.rest; stands = λ s at. kept.stands s (grind (arith, at)) }
 
   pub others : AreAmong (changed_back moments n None) moments
   others s at = grind (arith, at)
-
-pub kept_among : (rank : ℕ → ℕ → Ordering) (few many : ℕ → Option ℕ) (e : Earliest) → AreAmong few many → AreKept rank many e → AreKept rank few e
-kept_among rank few many e among kept = record {
-  queue = kept.queue;
-  rest = kept.rest;
-  stands = λ s at. kept.stands s (among s at);
-}
 
 -- a shorter queue, with the same moments among the rest, holds no other number
 pub held_shorter : (e u : Earliest) → ((k : ℕ) → tournament.moment_at u.rest k ≡ tournament.moment_at e.rest k) → ((s : NumberedMoment) → StandsIn u.queue s → StandsIn e.queue s) → (n : ℕ) → IsHeld u n → IsHeld e n

@@ -1,5 +1,5 @@
 -- A tournament of numbers by their moments: who wins it, and what a new moment changes.
-use Rattle.std.proofs.Common.{◌≡◌, ◌≢◌, inl, ℕ, suc, zero, ◌+◌, ◌-◌, ◌*◌, ◌/◌, ◌<◌, ◌≤◌, true, false, List, Option, Some, None, length, slice_set, refl, sym, ap, subst, ◌∙◌, arith}
+use Rattle.std.proofs.Common.{◌≡◌, ◌≢◌, ℕ, suc, zero, ◌+◌, ◌-◌, ◌*◌, ◌/◌, ◌<◌, ◌≤◌, true, false, List, Option, Some, None, length, slice_set, refl, sym, ap, subst, ◌∙◌, arith}
 use Rattle.std.specs.Prelude.{◌==◌, if◌then◌else◌, ◌⊎◌, option_map}
 use Rattle.std.specs.Option.{option_cmp}
 use Rattle.std.proofs.lemmas.Bool.{cases_eq}
@@ -14,7 +14,8 @@ use Rattle.std.specs.Cmp.Lexicographic.{options_total}
 use Rattle.std.proofs.lemmas.Cmp.{on_total, then_total, back_total, tied_itself, upto}
 use Rattle.amr_tables.specs.Places.{value_at}
 use Rattle.amr_tables.specs.Tournament.{Tournament, moment_at, timer_at, winner_at, timer_cmp, later_winner, IsTournament, AgreeOn}
-use Rattle.amr_tables.proofs.Placing.{value_apart, value_past, value_within}
+use Rattle.std.proofs.lemmas.Option.{slice_get_past}
+use Rattle.amr_tables.proofs.Placing.{value_apart}
 
 -- ---- the order of timers
 
@@ -48,9 +49,6 @@ not_before m x r h = grind (arith, nat_tests, h)
 
 -- ---- who wins
 
-own_node : (t : Tournament) (n : ℕ) → winner_at t (length t.moments + n) ≡ n
-own_node t n = grind (arith, nat_tests)
-
 module _ (rank : ℕ → ℕ → Ordering) (t : Tournament) (order : IsTotalOrder rank) (played : IsTournament rank t) where
   abbrev cmp : ℕ → ℕ → Ordering
   cmp a b = timer_cmp rank (timer_at t a) (timer_at t b)
@@ -66,15 +64,17 @@ module _ (rank : ℕ → ℕ → Ordering) (t : Tournament) (order : IsTotalOrde
       grind (arith, cases_eq p 1, halves, half, over, upto total (winner_at t 1) (winner_at t (p / 2)) (winner_at t p), itself total (winner_at t 1), one, inner))
 
   first_of_all : (n : ℕ) → n < length t.moments → is_gt (cmp (winner_at t 1) n) ≡ false
-  first_of_all n within = subst (λ x. is_gt (cmp (winner_at t 1) x) ≡ false) (own_node t n) (first_of (length t.moments + n) (omega arith) (omega arith))
+  first_of_all n within =
+      let own : winner_at t (length t.moments + n) ≡ n = grind (arith, nat_tests) in
+      subst (λ x. is_gt (cmp (winner_at t 1) x) ≡ false) own (first_of (length t.moments + n) (omega arith) (omega arith))
 
   -- a winner that has a moment is not after any other number
   pub winner_first : (moment other x : ℕ) → moment_at t (winner_at t 1) ≡ Some moment → moment_at t other ≡ Some x → is_gt (timer_cmp rank (Some moment, winner_at t 1) (Some x, other)) ≡ false
-  winner_first moment other x is at = grind (arith, first_of_all other (value_within t.moments other x at), is, at)
+  winner_first moment other x is at = grind (arith, first_of_all other, slice_get_past t.moments other, is, at)
 
   -- a winner without a moment has beaten none that has one
   pub none_earlier : moment_at t (winner_at t 1) ≡ None → (n : ℕ) → moment_at t n ≡ None
-  none_earlier none n = grind (arith, first_of_all n, value_past t.moments n, none)
+  none_earlier none n = grind (arith, first_of_all n, slice_get_past t.moments n, none)
 
 -- ---- what a new winner changes
 
@@ -121,14 +121,13 @@ module _ {W : ℕ → ℕ} {N : ℕ} (pick : ℕ → ℕ → ℕ) (picked : (l r
   abbrev Above : ℕ → ℕ → Type 0
   Above p n = (p ≡ N + n) ⊎ (p * 2 ≤ N + n)
 
-  up : (p n : ℕ) → 1 ≤ p → W p ≡ n → (W (p * 2) ≡ n → Above (p * 2) n) → (W (p * 2 + 1) ≡ n → Above (p * 2 + 1) n) → Above p n
-  up p n one wins left right = grind (arith, own p, played p one, picked (W (p * 2)) (W (p * 2 + 1)))
-
   -- a number wins its own node, and no other node after the half of it
   wins_before : (fuel p n : ℕ) → N ≤ p + fuel → 1 ≤ p → W p ≡ n → Above p n
-  wins_before zero p n within one wins = inl (omega (arith, own p (omega arith)))
+  wins_before zero p n within one wins = grind (arith, own p, within, wins)
   wins_before (suc fuel) p n within one wins =
-      up p n one wins (wins_before fuel (p * 2) n (omega arith) (omega arith)) (wins_before fuel (p * 2 + 1) n (omega arith) (omega arith))
+      let left = wins_before fuel (p * 2) n in
+      let right = wins_before fuel (p * 2 + 1) n in
+      grind (arith, own p, played p one, picked (W (p * 2)) (W (p * 2 + 1)), left, right, within, one, wins)
 
   not_won : (c n : ℕ) → 1 ≤ c → N + n < c → W c ≢ n
   not_won c n one late wins = let above = wins_before N c n (omega arith) one wins in absurd (omega (arith, above))
@@ -155,18 +154,12 @@ module _ {W V : ℕ → ℕ} {pick : ℕ → ℕ → ℕ} {n N node : ℕ} (c : 
   stopped as_was apart j one inner = grind (arith, c.same j, c.same (j * 2), c.same (j * 2 + 1), c.won (j * 2), c.won (j * 2 + 1), c.stand j one inner, c.played j one inner)
 
   module _ (one : 1 ≤ node / 2) (inner : node / 2 < N) where
-    -- a node before this one that the number won is at most the half of this one
-    at_half : (j : ℕ) → 1 ≤ j → j < node / 2 * 2 → W j ≡ n → j ≤ node / 2
-    at_half j some less wins = omega (arith, (c.won j some (omega arith) wins).1)
-
-    step : (j : ℕ) → 1 ≤ j → j < node / 2 * 2 → W j ≡ n → (j < node / 2 → W (j * 2) ≡ n → W (node / 2) ≡ n) → (j < node / 2 → W (j * 2 + 1) ≡ n → W (node / 2) ≡ n) → (W (node / 2) ≡ n) × ((j ≡ node / 2) ⊎ (j * 2 ≤ node / 2))
-    step j some less wins left right = grind (arith, at_half j, at_half (j * 2), at_half (j * 2 + 1), c.either j)
-
     won_half : (fuel j : ℕ) → node / 2 ≤ j + fuel → 1 ≤ j → j < node / 2 * 2 → W j ≡ n → (W (node / 2) ≡ n) × ((j ≡ node / 2) ⊎ (j * 2 ≤ node / 2))
-    won_half zero j within some less wins = step j some less wins (λ small. absurd (omega arith)) (λ small. absurd (omega arith))
+    won_half zero j within some less wins = grind (arith, c.won j some, within, less, wins)
     won_half (suc fuel) j within some less wins =
-        step j some less wins (λ small is. (won_half fuel (j * 2) (omega arith) (omega arith) (omega arith) is).0)
-        (λ small is. (won_half fuel (j * 2 + 1) (omega arith) (omega arith) (omega arith) is).0)
+        let left = won_half fuel (j * 2) in
+        let right = won_half fuel (j * 2 + 1) in
+        grind (arith, c.won j some, c.won (j * 2), c.won (j * 2 + 1), c.either j some, left, right, within, some, less, wins)
 
     pub half_as_was : V (node / 2) ≡ W (node / 2)
     half_as_was = c.same (node / 2) (omega arith) (λ e. absurd (omega arith))
@@ -178,7 +171,7 @@ module _ {W V : ℕ → ℕ} {pick : ℕ → ℕ → ℕ} {n N node : ℕ} (c : 
       stand = c.stand;
       won = λ j some less wins. won_half (node / 2) j (omega arith) some less wins;
       same = λ j less apart. grind (arith, nat_tests, now j, c.same j);
-      played = λ j some within late. grind (arith, nat_tests, now j, now (j * 2), now (j * 2 + 1), c.same j, c.same (j * 2), c.same (j * 2 + 1), c.played j, c.stand j, at_half (j * 2), at_half (j * 2 + 1));
+      played = λ j some within late. grind (arith, nat_tests, now j, now (j * 2), now (j * 2 + 1), c.same j, c.same (j * 2), c.same (j * 2 + 1), c.played j, c.stand j, c.won (j * 2), c.won (j * 2 + 1));
     }
 
 module _ (rank : ℕ → ℕ → Ordering) {n : ℕ} (t u : Tournament) {node : ℕ} (c : IsClimbed rank n t u node) (moments : u.moments ≡ t.moments) where
@@ -193,18 +186,11 @@ module _ (rank : ℕ → ℕ → Ordering) {n : ℕ} (t u : Tournament) {node : 
   pub stopped_at : winner_at u node ≡ winner_at t node → winner_at u node ≢ n → IsTournament rank u
   stopped_at as_was apart = all_played (stopped c as_was apart)
 
--- the half of a node after the first is a node, and an inner one
-pub half_bounds : (node n : ℕ) → 1 < node → node < n + n → (1 ≤ node / 2) × (node / 2 < n)
-half_bounds node n h within = omega arith
-
 -- ---- another order of the same numbers
 
 module _ (rank other : ℕ → ℕ → Ordering) (t : Tournament) (agree : AgreeOn t rank other) where
   same_match : (m n : Option ℕ) (a b : ℕ) → moment_at t a ≡ m → moment_at t b ≡ n → timer_cmp other (m, a) (n, b) ≡ timer_cmp rank (m, a) (n, b)
-  same_match (Some m) (Some n) a b p q = ap (ordering_then (nat_cmp m n)) (sym (agree a b m n p q))
-  same_match (Some m) None a b p q = refl
-  same_match None (Some n) a b p q = refl
-  same_match None None a b p q = refl
+  same_match m n a b p q = grind (arith, agree a b, p, q)
 
   -- a tournament stands under another order that agrees on all numbers with moments
   pub tournament_agrees : IsTournament rank t → IsTournament other t

@@ -1,7 +1,7 @@
 use Rattle.std.proofs.Common.{rules, inl, None, ap, sym, subst, ◌∙◌}
 use Rattle.amr_tables.specs.Tournament.{Tournament, moment_at}
-use Rattle.amr_tables.specs.Earliest.{IsHeld, IsOrdered, changed_back, AreKept}
-use Rattle.amr_tables.proofs.Firsts.{changed_nothing, others_former, kept_among, held_shorter}
+use Rattle.amr_tables.specs.Earliest.{IsHeld, IsOrdered, AreKept}
+use Rattle.amr_tables.proofs.Firsts.{changed_nothing, without, held_shorter}
 use Rattle.amr_tables.proofs.earliest.Earliest.update.Goals as goal
 use Rattle.amr_tables.proofs.earliest.Earliest.update.Goals.{in-Some, in_default}
 
@@ -12,8 +12,7 @@ returns-then-eq-clause-kept g c =
 
 pub insert-requires-clause-kept : goal.insert-requires-clause-kept
 insert-requires-clause-kept g c =
-    let moments = g.S.Schedule.moments c.args.schedule.now in
-    kept_among (g.S.Schedule.rank c.args.schedule.now) (changed_back moments c.args.number None) (changed_back moments c.args.number c.args.former) c.args.self.now (others_former moments c.args.number c.args.former) c.requires.kept.kept
+    without (g.S.Schedule.moments c.args.schedule.now) c.args.number (g.S.Schedule.rank c.args.schedule.now) c.args.former c.args.self.now c.requires.kept.kept
 
 pub drop_winners-requires : goal.drop_winners-requires
 drop_winners-requires g c =
@@ -23,8 +22,8 @@ drop_winners-requires g c =
     c.drop_first.ensures.kept (elim c.match-moment.branch [
       | in-Some w ↦ subst (AreKept rank moments) (sym w.self-is) w.insert.ensures.kept
       | in_default w ↦
-          let without : AreKept rank (changed_back moments n None) c.args.self.now = kept_among rank (changed_back moments n None) (changed_back moments n c.args.former) c.args.self.now (others_former moments n c.args.former) c.requires.kept.kept in
-          subst (AreKept rank moments) (sym w.self-is) (subst (λ ms. AreKept rank ms c.args.self.now) (changed_nothing moments n None (sym c.moment-moment.ensures ∙ w.in_default.is)) without)
+          subst (AreKept rank moments) (sym w.self-is) (subst (λ ms. AreKept rank ms c.args.self.now) (changed_nothing moments n None (sym c.moment-moment.ensures ∙ w.in_default.is))
+          (without moments n rank c.args.former c.args.self.now c.requires.kept.kept))
     ])
 
 pub returns-clause-held : goal.returns-clause-held

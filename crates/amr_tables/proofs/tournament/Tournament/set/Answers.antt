@@ -1,7 +1,7 @@
 use Rattle.std.proofs.Common.{rules, ◌≡◌, ◌<◌, ◌≤◌, ◌/◌, ◌+◌, length, length-set, refl, slice_set, sym, ap, subst, ◌∙◌, arith}
 use Rattle.amr_tables.specs.Tournament.{Tournament, later_winner, IsTournament}
 use Rattle.amr_tables.proofs.Placing.{same_value_set}
-use Rattle.amr_tables.proofs.Playing.{IsClimbed, begun, climbs, ended, now, half_as_was, stopped_at, half_bounds}
+use Rattle.amr_tables.proofs.Playing.{IsClimbed, begun, climbs, ended, now, half_as_was, stopped_at}
 use Rattle.amr_tables.proofs.tournament.Tournament.set.Given.{Over}
 use Rattle.amr_tables.proofs.tournament.Tournament.set.Goals.{After-play-former}
 use Rattle.amr_tables.proofs.tournament.Tournament.set.Goals as goal
@@ -25,7 +25,7 @@ loop-node-init g c =
 -- a match was played: what is known of the node before, and what of the half of it now
 module _ (g : Over) (c : After-play-former g) where
   bounds : (1 ≤ c.loop-node.node / 2) × (c.loop-node.node / 2 < length c.loop-node.self.moments)
-  bounds = half_bounds c.loop-node.node (length c.loop-node.self.moments) c.loop-node-test.true c.loop-node.invariant.inner
+  bounds = omega arith
 
   inner : c.loop-node.node / 2 < length (slice_set c.self.inside.moments.items c.args.number c.args.moment)
   inner = subst (λ ms. c.loop-node.node / 2 < length ms) c.loop-node.invariant.moments bounds.1
