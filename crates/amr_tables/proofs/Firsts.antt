@@ -2,7 +2,7 @@
 use Rattle.std.proofs.Common.{◌≡◌, ◌≢◌, inl, inr, ℕ, zero, suc, ◌<◌, true, false, not, List, [], ◌∷◌, Option, Some, None, length, refl, sym, ap, subst, ◌∙◌, arith}
 use Rattle.std.specs.Prelude.{◌==◌, slice_get, slice_set, if◌then◌else◌}
 use Rattle.std.proofs.Math.Logic.{⊎_elim, ⊎_map}
-use Rattle.std.proofs.lemmas.Bool.{not-true, not-false}
+use Rattle.std.proofs.lemmas.Bool.{not-true}
 use Rattle.std.proofs.lemmas.Bool.Decides.{nat_tests}
 use Rattle.std.proofs.lemmas.Cmp.{upto}
 use Rattle.std.proofs.lemmas.Option.{none-some, same_Some}
@@ -16,7 +16,7 @@ use Rattle.amr_tables.specs.Tournament as tournament
 use Rattle.amr_tables.specs.Earliest.{Earliest, changed_back, StandsIn, Stands, IsHeld, IsCurrent, AreAmong, IsFrontCurrent, is_in_order, IsQueue, AreKept, IsOrdered, IsEarliest, AgreeOn}
 use Rattle.std.proofs.lemmas.Option.{slice_get_past}
 use Rattle.amr_tables.proofs.Present.{get_set}
-use Rattle.amr_tables.proofs.Playing.{timer_total, not_after_back, itself, not_before, winner_first, none_earlier, tournament_agrees}
+use Rattle.amr_tables.proofs.Playing.{timer_total, itself, not_before, winner_first, none_earlier, tournament_agrees}
 
 -- ---- the winner of the rest
 
@@ -89,7 +89,7 @@ module _ (rank : ℕ → ℕ → Ordering) (order : IsTotalOrder rank) where
         pub winner_before : is_in_order rank f v ≡ false → IsEarliest rank moments v
         winner_before after =
             let first = winner_least v wins at in
-            let earlier = not_after_back (timer_total order) (Some f.moment, f.number) (Some v.moment, v.number) (not-false _ after) in
+            let earlier : NotAfter v f = grind (arith, (timer_total order).antisymm (Some v.moment, v.number) (Some f.moment, f.number), after) in
             earliest_is v first.0 (λ s h. through v f s earlier ((front_least f front).1 s h)) first.1
 
 -- ---- a winner that isn't current leaves

@@ -1,8 +1,7 @@
 -- The values of a table that are listed with their keys, or alone.
-use Rattle.std.proofs.Common.{◌≡◌, ℕ, zero, suc, ◌+◌, ◌<◌, T, Bool, true, false, List, [], ◌∷◌, ◌++◌, Option, Some, length, map, take, get_or, refl, sym, ap, ◌∙◌, arith}
+use Rattle.std.proofs.Common.{◌≡◌, ℕ, zero, suc, ◌+◌, ◌<◌, T, Bool, List, [], ◌∷◌, ◌++◌, Option, Some, length, map, take, get_or, sym, ap, ◌∙◌, arith}
 use Rattle.std.specs.Prelude.{option_map}
 use Rattle.std.specs.Borrow.{Bor}
-use Rattle.std.specs.FinMap.{is_sorted}
 use Rattle.std.specs.declared.cmp.Ordering.{Ordering}
 use Rattle.std.specs.List.{filter_map, cons_option, list_all}
 use Rattle.std.proofs.lemmas.List.{take_more, map-append}
@@ -30,14 +29,7 @@ covers : {K V : Type 0} (p : V → Bool) (cells : List (Option V)) (keys : List 
 covers p cells [] all = tt
 covers p cells (key ∷ keys) all = let rest = covers p cells keys all in grind (arith, rest, value_passes p cells key.1, all)
 
-module _ {K V : Type 0} (R : K → K → Ordering) where
-  of_entries : (P : List (K × V) → Type 0) (es : List (K × V)) (b : Bool) (e : is_sorted R es ≡ b) → P es → P [] → P (entries (if_sorted es b e empty))
-  unfolding entries if_sorted empty
-  of_entries P es true e all none = all
-  of_entries P es false e all none = none
-
-  -- what holds of all values of a table holds of all values of the map that it shows
-  pub present_covers : (p : V → Bool) (t : Numbered K V) → T (list_all p (values_of t.cells)) → T (list_all (λ entry. p entry.1) (entries (map_of R t)))
-  unfolding map_of from_sorted
-  present_covers p t all =
-      of_entries (λ es. T (list_all (λ entry. p entry.1) es)) (filter_map (entry_at t.cells) t.numbers) _ refl (covers p t.cells t.numbers all) tt
+-- what holds of all values of a table holds of all values of the map that it shows
+pub present_covers : {K V : Type 0} (R : K → K → Ordering) (p : V → Bool) (t : Numbered K V) → T (list_all p (values_of t.cells)) → T (list_all (λ entry. p entry.1) (entries (map_of R t)))
+unfolding map_of from_sorted entries if_sorted empty
+present_covers R p t all = grind (arith, covers p t.cells t.numbers all)

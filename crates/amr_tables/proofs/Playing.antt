@@ -1,5 +1,5 @@
 -- A tournament of numbers by their moments: who wins it, and what a new moment changes.
-use Rattle.std.proofs.Common.{◌≡◌, ◌≢◌, ℕ, suc, zero, ◌+◌, ◌-◌, ◌*◌, ◌/◌, ◌<◌, ◌≤◌, true, false, List, Option, Some, None, length, slice_set, refl, sym, ap, subst, ◌∙◌, arith}
+use Rattle.std.proofs.Common.{◌≡◌, ◌≢◌, ℕ, suc, zero, ◌+◌, ◌-◌, ◌*◌, ◌/◌, ◌<◌, ◌≤◌, false, List, Option, Some, None, length, slice_set, refl, sym, ap, subst, ◌∙◌, arith}
 use Rattle.std.specs.Prelude.{◌==◌, if◌then◌else◌, ◌⊎◌, option_map}
 use Rattle.std.specs.Option.{option_cmp}
 use Rattle.std.proofs.lemmas.Bool.{cases_eq}
@@ -34,10 +34,6 @@ timer_total {rank} order = subst IsTotalOrder (λ i x y. is x y i) (back_total (
 module _ {K : Type 0} {R : K → K → Ordering} (o : IsTotalOrder R) where
   pub itself : (x : K) → is_gt (R x x) ≡ false
   itself x = ap is_gt (tied_itself o x)
-
-  -- what the other is after is not after it
-  pub not_after_back : (x y : K) → is_gt (R x y) ≡ true → is_gt (R y x) ≡ false
-  not_after_back x y h = grind (arith, o.antisymm y x, h)
 
   -- who wins of two is after neither
   over_both : (l r w : K) → w ≡ (if is_lt (R r l) then r else l) → (is_gt (R w l) ≡ false) × (is_gt (R w r) ≡ false)

@@ -81,9 +81,6 @@ module _ (moments : ℕ → Option ℕ) (rank : ℕ → ℕ → Ordering) {e u :
 pub stood_last : (queue left : List NumberedMoment) (r : Option NumberedMoment) → queue ≡ left ++ option_to_list r → (s : NumberedMoment) → StandsIn left s → StandsIn queue s
 stood_last queue left r is s h = grind (arith, is, h, stands_more left, append-nil left)
 
-pub stood_first : (queue left : List NumberedMoment) (r : Option NumberedMoment) → queue ≡ option_to_list r ++ left → (s : NumberedMoment) → StandsIn left s → StandsIn queue s
-stood_first queue left r is s h = grind (arith, is, h)
-
 -- ---- a moment joins
 
 module _ (moments : ℕ → Option ℕ) (s : NumberedMoment) (now : IsCurrent moments s) (e u : Earliest) where

@@ -1,6 +1,6 @@
-use Rattle.std.proofs.Common.{◌∙◌, sym, ap, subst}
+use Rattle.std.proofs.Common.{◌∙◌, sym, ap, subst, arith}
 use Rattle.amr_tables.specs.Earliest.{Earliest, IsOutdated}
-use Rattle.amr_tables.proofs.Queueing.{first_leaves, stood_first}
+use Rattle.amr_tables.proofs.Queueing.{first_leaves}
 use Rattle.amr_tables.proofs.earliest.Earliest.drop_first.Goals as goal
 
 pub loop-self-preserved : goal.loop-self-preserved
@@ -10,6 +10,6 @@ loop-self-preserved g c =
     let items = ap (λ (x : Earliest). x.queue) (sym c.self.view_is) ∙ c.pop_front.ensures.items in
     record {
       rest = rest ∙ c.loop-self.invariant.rest;
-      queue = λ s stands. c.loop-self.invariant.queue s (stood_first _ c.pop_front.new.self.items _ items s stands);
+      queue = λ s stands. c.loop-self.invariant.queue s (grind (arith, items, stands));
       kept = λ kept. first_leaves moments (g.S.Schedule.rank c.args.schedule.now) rest _ items (subst (IsOutdated moments) c.front.ensures (c.is_outdated.ensures.outdated c.loop-self-test.true)) (c.loop-self.invariant.kept kept);
     }

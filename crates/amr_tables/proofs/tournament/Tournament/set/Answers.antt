@@ -1,4 +1,4 @@
-use Rattle.std.proofs.Common.{rules, ◌≡◌, ◌<◌, ◌≤◌, ◌/◌, ◌+◌, length, length-set, refl, slice_set, sym, ap, subst, ◌∙◌, arith}
+use Rattle.std.proofs.Common.{rules, ◌≡◌, ◌<◌, ◌≤◌, ◌/◌, length, length-set, refl, slice_set, sym, ap, subst, ◌∙◌, arith}
 use Rattle.amr_tables.specs.Tournament.{Tournament, later_winner, IsTournament}
 use Rattle.amr_tables.proofs.Placing.{same_value_set}
 use Rattle.amr_tables.proofs.Playing.{IsClimbed, begun, climbs, ended, now, half_as_was, stopped_at}
@@ -9,17 +9,15 @@ use Rattle.amr_tables.proofs.tournament.Tournament.set.Goals as goal
 pub loop-node-init : goal.loop-node-init
 loop-node-init g c =
     let t : Tournament = record { moments = c.self.inside.moments.items; winners = c.self.inside.winners.items } in
-    let rank = g.S.Schedule.rank c.args.schedule.now in
-    let len : length (slice_set t.moments c.args.number c.args.moment) ≡ length t.moments = length-set t.moments c.args.number c.args.moment in
+    let len = length-set t.moments c.args.number c.args.moment in
     let at : c.len.result ≡ length (slice_set t.moments c.args.number c.args.moment) = c.len.ensures ∙ c.self.inside.moments.ok.0 ∙ sym len in
-    let changed : Tournament = record t { moments = slice_set t.moments c.args.number c.args.moment } in
-    let room : c.args.number < length t.moments = subst (λ (x : Tournament). c.args.number < length x.moments) (sym c.self.view_is) c.requires.room in
+    let same = ap (λ (x : Tournament). length x.moments) c.self.view_is in
     record {
       moments = refl;
-      first = omega (arith, at, len, room);
-      inner = omega (arith, at, len, room);
+      first = omega (arith, at, len, same);
+      inner = omega (arith, at, len, same);
       nodes = c.self.invariant ∙ sym len;
-      climbed = subst (λ x. IsClimbed rank c.args.number changed changed (x + c.args.number)) (sym at) (begun rank t c.args.number c.args.moment len (subst (IsTournament rank) (sym c.self.view_is) c.requires.kept));
+      climbed = rw at (begun (g.S.Schedule.rank c.args.schedule.now) t c.args.number c.args.moment len (subst (IsTournament (g.S.Schedule.rank c.args.schedule.now)) (sym c.self.view_is) c.requires.kept));
     }
 
 -- a match was played: what is known of the node before, and what of the half of it now
