@@ -33,5 +33,3 @@ module _ {K : Type 0} (R : K → K → Ordering) where
 
     pub key_with-numbered : (m : ℕ) (ks : List K) → IsDistinct E ks → key_with (numbered_from R 0 ks) m ≡ slice_get ks m
     key_with-numbered m ks d = from 0 m ks d ∙ grind (arith, nat_tests)
-
-pub ruleset key_with_number = (key_with-numbered)

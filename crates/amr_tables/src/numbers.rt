@@ -41,7 +41,6 @@ impl<K: Key + Drop> Numbers<K> {
     }
 
     /// Returns the number of a key.
-    #[tactic(auto, using(crate::proofs::Counting::index_is))]
     pub(crate) fn get(&self, key: &K) -> Option<usize>
         ensures { result ≡ find K.cmp key.now self.now.list }
     {
@@ -49,7 +48,6 @@ impl<K: Key + Drop> Numbers<K> {
     }
 
     /// Returns the key with a number.
-    #[tactic(auto, using(crate::proofs::Keying::key_with_number))]
     pub(crate) fn key_at(&self, number: usize) -> Option<&K>
         ensures { option_copied result ≡ key_with self.now.list number }
     {
@@ -65,7 +63,6 @@ impl<K: Key + Drop> Numbers<K> {
     }
 
     /// Gives the next number to a key that has none. It takes no memory.
-    #[tactic(auto, using(crate::proofs::Counting::push_is))]
     pub(crate) fn insert(&mut self, key: K)
         requires absent { find K.cmp key self.old.list ≡ None }
         requires room { 0 < self.old.room }

@@ -1,5 +1,5 @@
 use Rattle.std.proofs.Common.{◌≡◌, None, length, sym, ap, ◌∙◌, arith}
-use Rattle.std.specs.FinMap.Entries.{length-put}
+use Rattle.std.specs.FinMap.Entries.{find-put, length-put}
 use Rattle.std.proofs.lemmas.List.{length_push}
 use Rattle.amr_tables.specs.Numbered.{Numbered, IsNumbering, map_of}
 use Rattle.amr_tables.proofs.Numbering.{added_is, added_shown}
@@ -29,3 +29,6 @@ returns-clause-numbering g c = numbering g (goal.at.returns-clause-numbering g c
 
 pub returns-clause-shown : goal.returns-clause-shown
 returns-clause-shown g c = shown g (goal.at.returns-clause-shown g c).After-push_reserved
+
+pub returns-clause-number : goal.returns-clause-number
+returns-clause-number g c = λ none other. grind (arith, find-put g.K.Ord.cmp g.met.K.Ord.total other c.args.key (length c.self.inside.cells.items) c.self.inside.numbers.list)

@@ -1,7 +1,11 @@
-use Rattle.std.proofs.Common.{rules, slice_set, subst, ap}
+use Rattle.std.proofs.Common.{rules, slice_set, subst, ap, arith}
+use Rattle.std.proofs.lemmas.Option.{gets}
 use Rattle.amr_tables.specs.Numbered.{IsNumbering}
-use Rattle.amr_tables.proofs.Numbering.{swapped_shown}
+use Rattle.amr_tables.proofs.Numbering.{get-shown, swapped_shown}
 use Rattle.amr_tables.proofs.keyed.Keyed.swap_at.Goals as goal
+
+pub returns-clause-former : goal.returns-clause-former
+returns-clause-former g c = λ key at. grind (arith, gets, get-shown g.K.Ord.cmp g.met.K.Ord.total c.args.self.now key, at)
 
 pub returns-clause-shown : goal.returns-clause-shown
 returns-clause-shown g c = λ key at.
