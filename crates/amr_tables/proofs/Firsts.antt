@@ -68,11 +68,9 @@ module _ (rank : ℕ → ℕ → Ordering) (order : IsTotalOrder rank) where
           (current, λ j x at. let s : NumberedMoment = record { moment = x; number = j } in not_before v.moment x (rank v.number j) (⊎_elim (queue s) (rest s) (ordered.kept.stands s at)))
 
       pub none_at_all : slice_get e.queue 0 ≡ None → first_of e.rest ≡ None → (n : ℕ) → moments n ≡ None
-      none_at_all front winner n = by (moments n) refl
-        where
-          by : (x : Option ℕ) → moments n ≡ x → x ≡ None
-          by None at = refl
-          by (Some m) at = let s : NumberedMoment = record { moment = m; number = n } in absurd (⊎_elim (no_front e.queue front s) (no_winner winner s) (ordered.kept.stands s at))
+      none_at_all front winner n =
+          let nothing : (m : ℕ) → moments n ≡ Some m → ⊥ = λ m at. ⊎_elim (no_front e.queue front _) (no_winner winner _) (ordered.kept.stands (record { moment = m; number = n }) at) in
+          grind (arith, nothing)
 
       pub front_alone : (v : NumberedMoment) → slice_get e.queue 0 ≡ Some v → first_of e.rest ≡ None → IsEarliest rank moments v
       front_alone v front winner = let first = front_least v front in earliest_is v first.0 first.1 (λ s h. absurd (no_winner winner s h))

@@ -1,12 +1,12 @@
 -- The key with a number.
-use Rattle.std.proofs.Common.{◌≡◌, ℕ, List, [], ◌∷◌, Option, None, Some, refl, sym, ap, ◌∙◌, arith}
+use Rattle.std.proofs.Common.{◌≡◌, ℕ, List, [], ◌∷◌, Some, sym, ap, ◌∙◌, arith}
 use Rattle.std.specs.Prelude.{option_and_then}
 use Rattle.std.specs.List.{AllByRecursion}
 use Rattle.std.specs.declared.cmp.Ordering.{Ordering}
 use Rattle.std.specs.Cmp.{IsTotalOrder}
 use Rattle.std.specs.FinMap.{find, IsAntisymmetric}
 use Rattle.std.proofs.lemmas.Bool.Decides.{nat_tests}
-use Rattle.std.proofs.lemmas.Option.{none-some}
+use Rattle.std.proofs.lemmas.Option.{option_and_then_some}
 use Rattle.amr_labels.specs.Map.{get}
 use Rattle.amr_labels.proofs.Pairs.{own_values}
 use Rattle.amr_tables.specs.Places.{value_at}
@@ -32,8 +32,4 @@ module _ {K V : Type 0} {R : K → K → Ordering} (o : IsTotalOrder R) (exact :
 
   -- a key with a value has a number
   pub number_of_value : (t : Numbered K V) → IsNumbering R t → (key : K) (value : V) → get (map_of R t) key ≡ Some value → (n : ℕ) × (number_of R t key ≡ Some n)
-  number_of_value t is key value at = by (number_of R t key) (sym (get-shown R o t key is) ∙ at)
-    where
-      by : (found : Option ℕ) → option_and_then (value_at t.cells) found ≡ Some value → (n : ℕ) × (found ≡ Some n)
-      by None none = absurd (none-some value none)
-      by (Some n) some = (n, refl)
+  number_of_value t is key value at = option_and_then_some (value_at t.cells) (number_of R t key) value (sym (get-shown R o t key is) ∙ at) (λ n found _. (n, found))

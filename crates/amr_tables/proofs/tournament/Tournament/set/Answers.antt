@@ -1,5 +1,5 @@
 use Rattle.std.proofs.Common.{rules, ◌≡◌, ◌<◌, ◌≤◌, ◌/◌, length, length-set, refl, slice_set, sym, ap, subst, ◌∙◌, arith}
-use Rattle.amr_tables.specs.Tournament.{Tournament, later_winner, IsTournament}
+use Rattle.amr_tables.specs.Tournament.{Tournament, IsTournament}
 use Rattle.amr_tables.proofs.Placing.{same_value_set}
 use Rattle.amr_tables.proofs.Playing.{IsClimbed, begun, climbs, ended, now, half_as_was, stopped_at}
 use Rattle.amr_tables.proofs.tournament.Tournament.set.Given.{Over}
@@ -35,12 +35,11 @@ module _ (g : Over) (c : After-play-former g) where
 pub loop-node-preserved : goal.loop-node-preserved
 loop-node-preserved g c =
     let d = (goal.at.loop-node-preserved g c).After-play-former in
-    let u : Tournament = c.loop-node.self in
     record {
       moments = c.play-former.ensures.moments ∙ c.loop-node.invariant.moments;
       first = (bounds g d).0;
       inner = omega (arith, (bounds g d).1, ap length c.play-former.ensures.moments);
-      nodes = ap length c.play-former.ensures.winners ∙ length-set u.winners (c.loop-node.node / 2) (later_winner (g.S.Schedule.rank c.args.schedule.now) u (c.loop-node.node / 2)) ∙ c.loop-node.invariant.nodes ∙ sym (ap length c.play-former.ensures.moments);
+      nodes = ap length c.play-former.ensures.winners ∙ length-set _ _ _ ∙ c.loop-node.invariant.nodes ∙ sym (ap length c.play-former.ensures.moments);
       climbed = climbed g d;
     }
 
