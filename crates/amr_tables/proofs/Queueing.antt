@@ -5,7 +5,6 @@ use Rattle.std.specs.List.{last_or}
 use Rattle.std.specs.Option.{option_to_list}
 use Rattle.std.proofs.Math.Logic.{⊎_map}
 use Rattle.std.proofs.lemmas.Bool.Decides.{nat_tests}
-use Rattle.std.proofs.lemmas.List.{append-nil}
 use Rattle.std.specs.declared.cmp.Ordering.{Ordering}
 use Rattle.amr_tables.specs.declared.earliest.NumberedMoment.{NumberedMoment}
 use Rattle.amr_tables.specs.Tournament.{IsTournament}
@@ -14,7 +13,7 @@ use Rattle.amr_tables.proofs.Present.{get_set}
 
 -- ---- what stands in a queue
 
-stands_more : (queue : List NumberedMoment) (s x : NumberedMoment) → StandsIn queue x → StandsIn (queue ++ s ∷ []) x
+pub stands_more : (queue : List NumberedMoment) (s x : NumberedMoment) → StandsIn queue x → StandsIn (queue ++ s ∷ []) x
 stands_more [] s x h = absurd h
 stands_more (y ∷ queue) s x h = let rest = stands_more queue s x in grind (arith, rest, h)
 
@@ -77,9 +76,6 @@ module _ (moments : ℕ → Option ℕ) (rank : ℕ → ℕ → Ordering) {e u :
     rest = rw rest kept.rest;
     stands = λ x at. grind (arith, kept.stands x at, is, out, rest, at);
   }
-
-pub stood_last : (queue left : List NumberedMoment) (r : Option NumberedMoment) → queue ≡ left ++ option_to_list r → (s : NumberedMoment) → StandsIn left s → StandsIn queue s
-stood_last queue left r is s h = grind (arith, is, h, stands_more left, append-nil left)
 
 -- ---- a moment joins
 

@@ -1,9 +1,8 @@
-use Rattle.std.proofs.Common.{None, Some, append-nil, map, sym, ap, subst, ◌∙◌}
+use Rattle.std.proofs.Common.{None, Some, append-nil, map, sym, ap, subst, ◌∙◌, arith}
 use Rattle.std.specs.Map.Iter.{deref_pair}
 use Rattle.std.specs.Option.{option_copied}
-use Rattle.std.specs.List.{filter_map}
 use Rattle.std.proofs.lemmas.List.{map-append, take_all}
-use Rattle.amr_tables.specs.Numbered.{entry_at, numbered_key, IsNumbering}
+use Rattle.amr_tables.specs.Numbered.{IsNumbering}
 use Rattle.amr_tables.proofs.Numbering.{entries-shown}
 use Rattle.amr_tables.proofs.Listed.{listed_more}
 use Rattle.amr_tables.proofs.keyed.Keyed.sorted.Goals.{in-Some+in_ok-push, in_default}
@@ -23,7 +22,4 @@ loop-key-preserved g c =
 
 pub returns : goal.returns
 returns g c =
-    c.loop-key.invariant
-    ∙ ap (λ items. filter_map (entry_at c.args.self.now.cells) (map numbered_key items)) (take_all _ _ c.loop-key-test.false ∙ c.as_slice-key-items.ensures.value)
-    ∙ ap (filter_map (entry_at c.args.self.now.cells)) (c.in_ok-numbers.ensures ∙ ap (λ t. t.numbers) c.self.view_is)
-    ∙ sym (entries-shown g.K.Ord.cmp c.args.self.now (subst (IsNumbering g.K.Ord.cmp) c.self.view_is c.self.invariant.0))
+    grind (arith, take_all _ _ c.loop-key-test.false, c.in_ok-numbers.ensures, entries-shown g.K.Ord.cmp c.args.self.now (subst (IsNumbering g.K.Ord.cmp) c.self.view_is c.self.invariant.0))
