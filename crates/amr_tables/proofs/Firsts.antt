@@ -34,9 +34,8 @@ module _ (rank : ℕ → ℕ → Ordering) (order : IsTotalOrder rank) where
   through a b s = upto (timer_total order) (Some a.moment, a.number) (Some b.moment, b.number) (Some s.moment, s.number)
 
   queue_least : (first : NumberedMoment) (queue : List NumberedMoment) → IsQueue rank (first ∷ queue) → (s : NumberedMoment) → StandsIn (first ∷ queue) s → NotAfter first s
-  queue_least first queue is s (inl same) = subst (NotAfter first) same (itself (timer_total order) (Some first.moment, first.number))
-  queue_least first [] is s (inr h) = absurd h
-  queue_least first (x ∷ queue) is s (inr h) = through first x s (not-true _ is.0) (queue_least x queue is.1 s h)
+  queue_least first [] is s h = grind (arith, itself (timer_total order) (Some first.moment, first.number), h)
+  queue_least first (x ∷ queue) is s h = let rest = queue_least x queue is.1 s in grind (arith, itself (timer_total order) (Some first.moment, first.number), through first x s, rest, is.0, h)
 
   module _ (moments : ℕ → Option ℕ) where
     front_of : (queue : List NumberedMoment) (v : NumberedMoment) → IsQueue rank queue → IsFrontCurrent moments queue → slice_get queue 0 ≡ Some v → IsCurrent moments v × ((s : NumberedMoment) → StandsIn queue s → NotAfter v s)

@@ -1,10 +1,10 @@
 -- Which numbers are in their groups, as rows change.
-use Rattle.std.proofs.Common.{◌≡◌, ℕ, suc, zero, not, ◌+◌, ◌-◌, ◌<◌, cond, Bool, false, Some, List, [], ◌∷◌, ◌++◌, length, get_or, map, slice_set, take, refl, ◌∙◌, arith, length-append}
+use Rattle.std.proofs.Common.{◌≡◌, ℕ, not, ◌+◌, ◌-◌, ◌<◌, cond, Bool, false, Some, List, [], ◌∷◌, ◌++◌, length, get_or, map, slice_set, take, ◌∙◌, arith, length-append}
 use Rattle.std.specs.Prelude.{◌==◌, nat_lt, slice_get}
 use Rattle.std.proofs.lemmas.Bool.Decides.{nat_tests}
 use Rattle.std.proofs.lemmas.Grind.{get_or-set_at}
 use Rattle.std.proofs.lemmas.Option.{gets, slice_get-map, slice_get-get_or, slice_get_past, slice_get_within}
-use Rattle.std.proofs.lemmas.List.{map-append, length-set, get_or-set_other, length-take-le, get_or-take}
+use Rattle.std.proofs.lemmas.List.{map-append, length_push, get_or_push, get_or_append_left, length-set, get_or-set_other, length-take-le, get_or-take}
 use Rattle.std.proofs.lemmas.List.Folds.{Any-from_list_any, list_any_at}
 use Rattle.std.proofs.lemmas.Map.Keys.{IsDistinct-from_apart}
 use Rattle.std.specs.Bool.{beq}
@@ -18,10 +18,7 @@ use Rattle.amr_tables.specs.Seats.{home_at, position_at, number_at, count_at, is
 -- ---- lists
 
 pub get_push : {X : Type 0} (xs : List X) (x : X) (k : ℕ) → slice_get (xs ++ x ∷ []) k ≡ cond (k == length xs) (Some x) (slice_get xs k)
-get_push [] x zero = refl
-get_push [] x (suc k) = grind (arith, nat_tests)
-get_push (y ∷ xs) x zero = grind (arith, nat_tests)
-get_push (y ∷ xs) x (suc k) = let rest = get_push xs x k in grind (arith, nat_tests, rest)
+get_push xs x k = grind (arith, nat_tests, slice_get-get_or (xs ++ x ∷ []) k x, slice_get-get_or xs k x, slice_get_past (xs ++ x ∷ []) k, slice_get_past xs k, length_push xs x, get_or_push xs x x k, get_or_append_left xs (x ∷ []) x k)
 
 -- one more place that isn't marked
 pub marked_push : (marks : List Bool) (n : ℕ) → is_marked (marks ++ false ∷ []) n ≡ is_marked marks n

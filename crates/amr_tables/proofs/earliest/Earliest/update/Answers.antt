@@ -1,14 +1,13 @@
 use Rattle.std.proofs.Common.{rules, inl, None, ap, sym, subst, ◌∙◌}
 use Rattle.amr_tables.specs.Tournament.{Tournament, moment_at}
-use Rattle.amr_tables.specs.Earliest.{IsHeld, IsOrdered, AreKept}
+use Rattle.amr_tables.specs.Earliest.{IsHeld}
 use Rattle.amr_tables.proofs.Firsts.{changed_nothing, without, held_shorter}
 use Rattle.amr_tables.proofs.earliest.Earliest.update.Goals as goal
 use Rattle.amr_tables.proofs.earliest.Earliest.update.Goals.{in-Some, in_default}
 
 pub returns-then-eq-clause-kept : goal.returns-then-eq-clause-kept
 returns-then-eq-clause-kept g c =
-    subst (λ moments. IsOrdered (g.S.Schedule.rank c.args.schedule.now) moments c.args.self.now)
-    (changed_nothing (g.S.Schedule.moments c.args.schedule.now) c.args.number c.args.former (sym c.moment-moment.ensures ∙ search rules)) c.requires.kept
+    rw (← changed_nothing (g.S.Schedule.moments c.args.schedule.now) c.args.number c.args.former (sym c.moment-moment.ensures ∙ search rules)) c.requires.kept
 
 pub insert-requires-clause-kept : goal.insert-requires-clause-kept
 insert-requires-clause-kept g c =
@@ -16,14 +15,11 @@ insert-requires-clause-kept g c =
 
 pub drop_winners-requires : goal.drop_winners-requires
 drop_winners-requires g c =
-    let rank = g.S.Schedule.rank c.args.schedule.now in
     let moments = g.S.Schedule.moments c.args.schedule.now in
     let n = c.args.number in
     c.drop_first.ensures.kept (elim c.match-moment.branch [
-      | in-Some w ↦ subst (AreKept rank moments) (sym w.self-is) w.insert.ensures.kept
-      | in_default w ↦
-          subst (AreKept rank moments) (sym w.self-is) (subst (λ ms. AreKept rank ms c.args.self.now) (changed_nothing moments n None (sym c.moment-moment.ensures ∙ w.in_default.is))
-          (without moments n rank c.args.former c.args.self.now c.requires.kept.kept))
+      | in-Some w ↦ rw w.self-is w.insert.ensures.kept
+      | in_default w ↦ rw (w.self-is, ← changed_nothing moments n None (sym c.moment-moment.ensures ∙ w.in_default.is)) (without moments n _ c.args.former c.args.self.now c.requires.kept.kept)
     ])
 
 pub returns-clause-held : goal.returns-clause-held
