@@ -13,7 +13,7 @@ use Rattle.amr_tables.specs.declared.earliest.NumberedMoment.{NumberedMoment}
 use Rattle.amr_tables.specs.Places.{value_at, values_of}
 use Rattle.amr_tables.specs.Tournament.{Tournament, timer_cmp, winner_at, first_of, IsTournament}
 use Rattle.amr_tables.specs.Tournament as tournament
-use Rattle.amr_tables.specs.Earliest.{Earliest, changed_back, StandsIn, Stands, IsHeld, IsCurrent, AreAmong, IsFrontCurrent, is_in_order, IsQueue, AreKept, IsOrdered, IsEarliest, AgreeOn}
+use Rattle.amr_tables.specs.Earliest.{Earliest, changed_back, StandsIn, Stands, IsHeld, IsCurrent, IsFrontCurrent, is_in_order, IsQueue, AreKept, IsOrdered, IsEarliest, AgreeOn}
 use Rattle.std.proofs.lemmas.Option.{slice_get_past}
 use Rattle.amr_tables.proofs.Present.{get_set}
 use Rattle.amr_tables.proofs.Playing.{timer_total, itself, not_before, winner_first, none_earlier, tournament_agrees}
@@ -96,10 +96,10 @@ fewer_values [] n some = grind (arith, some)
 fewer_values (v ∷ moments) zero some = grind (arith, some)
 fewer_values (v ∷ moments) (suc n) some = let less = fewer_values moments n some in grind (arith, less)
 
-module _ (e u : Earliest) (n : ℕ) (queue : u.queue ≡ e.queue) (set : u.rest.moments ≡ slice_set e.rest.moments n None) (wins : first_of e.rest ≡ Some n) where
-  pub winner_leaves_fewer : length (values_of u.rest.moments) < length (values_of e.rest.moments)
-  winner_leaves_fewer = rw set (fewer_values e.rest.moments n (first_wins e.rest n wins).1)
+pub winner_leaves_fewer : (t : Tournament) (n : ℕ) {after : List (Option ℕ)} → after ≡ slice_set t.moments n None → first_of t ≡ Some n → length (values_of after) < length (values_of t.moments)
+winner_leaves_fewer t n set wins = rw set (fewer_values t.moments n (first_wins t n wins).1)
 
+module _ (e u : Earliest) (n : ℕ) (queue : u.queue ≡ e.queue) (set : u.rest.moments ≡ slice_set e.rest.moments n None) (wins : first_of e.rest ≡ Some n) where
   now : (k : ℕ) → tournament.moment_at u.rest k ≡ (if k == n then None else tournament.moment_at e.rest k)
   now k = grind (arith, nat_tests, set, get_set e.rest.moments n None (first_within e.rest n wins) k)
 
@@ -131,9 +131,6 @@ module _ (moments : ℕ → Option ℕ) (n : ℕ) where
   -- without its moment, the others have theirs
   pub without : (rank : ℕ → ℕ → Ordering) (former : Option ℕ) (e : Earliest) → AreKept rank (changed_back moments n former) e → AreKept rank (changed_back moments n None) e
   without rank former e kept = record { queue = kept.queue; rest = kept.rest; stands = λ s at. kept.stands s (grind (arith, at)) }
-
-  pub others : AreAmong (changed_back moments n None) moments
-  others s at = grind (arith, at)
 
 -- a shorter queue, with the same moments among the rest, holds no other number
 pub held_shorter : (e u : Earliest) → ((k : ℕ) → tournament.moment_at u.rest k ≡ tournament.moment_at e.rest k) → ((s : NumberedMoment) → StandsIn u.queue s → StandsIn e.queue s) → (n : ℕ) → IsHeld u n → IsHeld e n

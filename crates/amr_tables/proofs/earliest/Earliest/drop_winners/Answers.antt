@@ -5,9 +5,7 @@ use Rattle.amr_tables.proofs.earliest.Earliest.drop_winners.Goals as goal
 
 pub loop-number-smaller : goal.loop-number-smaller
 loop-number-smaller g c =
-    let u : Earliest = record { queue = c.self.inside.queue.items; rest = c.set.new.self } in
-    let set = c.set.ensures.moments ∙ ap (λ (x : Earliest). slice_set x.rest.moments c.in-Some.number None) c.self.view_is in
-    winner_leaves_fewer c.loop-number.self u c.in-Some.number (ap (λ (x : Earliest). x.queue) c.self.view_is) set c.in-Some.ensures.some.0
+    winner_leaves_fewer c.loop-number.self.rest c.in-Some.number (c.set.ensures.moments ∙ ap (λ (x : Earliest). slice_set x.rest.moments c.in-Some.number None) c.self.view_is) c.in-Some.ensures.some.0
 
 pub loop-number-preserved : goal.loop-number-preserved
 loop-number-preserved g c =

@@ -1,10 +1,10 @@
-use Rattle.std.proofs.Common.{◌∙◌, ◌++◌, ◌∷◌, [], None, Some, Option, sym, ap}
+use Rattle.std.proofs.Common.{◌∙◌, ◌++◌, ◌∷◌, [], None, Some, Option, sym, ap, arith}
 use Rattle.std.proofs.Math.Logic.{⊎_map}
 use Rattle.amr_tables.specs.declared.earliest.NumberedMoment.{NumberedMoment}
 use Rattle.amr_tables.specs.Tournament.{Tournament, moment_at}
 use Rattle.amr_tables.specs.Earliest.{Earliest, changed_back, are_in_order}
 use Rattle.amr_tables.proofs.Queueing.{held_last, kept_last}
-use Rattle.amr_tables.proofs.Firsts.{others, held_shorter}
+use Rattle.amr_tables.proofs.Firsts.{held_shorter}
 use Rattle.amr_tables.proofs.earliest.Earliest.insert.Goals as goal
 
 pub returns-then-are_in_order-clause-held : goal.returns-then-are_in_order-clause-held
@@ -20,8 +20,7 @@ returns-then-are_in_order-clause-kept g c =
 
 pub insert_before-requires-clause-kept : goal.insert_before-requires-clause-kept
 insert_before-requires-clause-kept g c =
-    let moments = g.S.Schedule.moments c.args.schedule.now in
-    c.drop_last.ensures.kept (g.S.Schedule.rank c.args.schedule.now) (changed_back moments c.args.standing.number None) (others moments c.args.standing.number) c.requires.kept
+    c.drop_last.ensures.kept (g.S.Schedule.rank c.args.schedule.now) (changed_back (g.S.Schedule.moments c.args.schedule.now) c.args.standing.number None) (λ s at. grind (arith, at)) c.requires.kept
 
 pub returns-clause-held : goal.returns-clause-held
 returns-clause-held g c = λ n held.
