@@ -68,21 +68,11 @@ module _ {K : Type 0} {R : K → K → Ordering} (o : IsTotalOrder R) where
     -- a new key goes last, and gets the number of keys before it
     pub push_is : IsAntisymmetric R → (k : K) (ks : List K) → IsDistinct E ks → find R k (numbered_from R 0 ks) ≡ None → numbered_from R 0 (cond (list_any (E k) ks) ks (ks ++ k ∷ [])) ≡ put R k (length (numbered_from R 0 ks)) (numbered_from R 0 ks)
     push_is same k ks d none =
+        let es = numbered_from R 0 ks in
         let absent = (λ i. list_any (λ y. ties k y i) ks) ∙ sym (has-numbered k 0 ks) ∙ ap is_some none in
+        let fewer = λ (q : K). prefix_len-le-length (λ x. not (eq_by_cmp R q x)) ks in
         rw absent (same_entries R o same _ _ (sorted-numbered 0 (ks ++ k ∷ [])) (is_sorted-put R o k _ _ (sorted-numbered 0 ks)) (λ q.
-        grind (
-          arith,
-          nat_tests,
-          find-numbered q (ks ++ k ∷ []),
-          find-numbered q ks,
-          find-put R o q k (length (numbered_from R 0 ks)) (numbered_from R 0 ks),
-          alike q k (numbered_from R 0 ks),
-          none,
-          position_or_len_push (eq_by_cmp R q) ks k,
-          prefix_len-le-length (λ x. not (eq_by_cmp R q x)) ks,
-          length_push ks k,
-          length-from 0 ks d,
-        )))
+        grind (arith, nat_tests, find-numbered q (ks ++ k ∷ []), find-numbered q ks, find-put R o q k (length es) es, alike q k es, position_or_len_push (eq_by_cmp R q) ks k, length_push ks k, length-from 0 ks d, none, fewer q)))
 
     -- each key has the number that it was counted by
     counted_are : (n : ℕ) (ks : List K) → IsDistinct E ks → All (λ e. find R e.0 (numbered_from R n ks) ≡ Some e.1) (counted n ks)
