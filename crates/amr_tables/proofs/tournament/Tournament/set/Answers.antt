@@ -22,15 +22,12 @@ loop-node-init g c =
 
 -- a match was played: what is known of the node before, and what of the half of it now
 module _ (g : Over) (c : After-play-former g) where
-  bounds : (1 ≤ c.loop-node.node / 2) × (c.loop-node.node / 2 < length c.loop-node.self.moments)
-  bounds = omega arith
-
-  inner : c.loop-node.node / 2 < length (slice_set c.self.inside.moments.items c.args.number c.args.moment)
-  inner = subst (λ ms. c.loop-node.node / 2 < length ms) c.loop-node.invariant.moments bounds.1
+  bounds : (1 ≤ c.loop-node.node / 2) × ((c.loop-node.node / 2 < length c.loop-node.self.moments) × (c.loop-node.node / 2 < length (slice_set c.self.inside.moments.items c.args.number c.args.moment)))
+  bounds = omega (arith, ap length c.loop-node.invariant.moments)
 
   climbed : IsClimbed (g.S.Schedule.rank c.args.schedule.now) c.args.number (record { moments = slice_set c.self.inside.moments.items c.args.number c.args.moment; winners = c.self.inside.winners.items }) c.play-former.new.self (c.loop-node.node / 2)
-  climbed = climbs c.loop-node.invariant.climbed bounds.0 inner (λ k.
-      now _ c.loop-node.self c.play-former.new.self _ k c.loop-node.invariant.moments c.play-former.ensures.moments c.play-former.ensures.winners bounds.1 c.loop-node.invariant.nodes)
+  climbed = climbs c.loop-node.invariant.climbed bounds.0 bounds.1.1 (λ k.
+      now _ c.loop-node.self c.play-former.new.self _ k c.loop-node.invariant.moments c.play-former.ensures.moments c.play-former.ensures.winners bounds.1.0 c.loop-node.invariant.nodes)
 
 pub loop-node-preserved : goal.loop-node-preserved
 loop-node-preserved g c =
@@ -38,7 +35,7 @@ loop-node-preserved g c =
     record {
       moments = c.play-former.ensures.moments ∙ c.loop-node.invariant.moments;
       first = (bounds g d).0;
-      inner = omega (arith, (bounds g d).1, ap length c.play-former.ensures.moments);
+      inner = omega (arith, (bounds g d).1.0, ap length c.play-former.ensures.moments);
       nodes = ap length c.play-former.ensures.winners ∙ length-set _ _ _ ∙ c.loop-node.invariant.nodes ∙ sym (ap length c.play-former.ensures.moments);
       climbed = climbed g d;
     }
@@ -48,7 +45,7 @@ returns-then-winner-former-clause-kept g c =
     let d = (goal.at.returns-then-winner-former-clause-kept g c).After-play-former in
     let won = sym c.winner.ensures ∙ c.if-winner-former.true in
     stopped_at _ _ c.play-former.new.self (climbed g d) (c.play-former.ensures.moments ∙ c.loop-node.invariant.moments)
-    (won ∙ c.play-former.ensures.former ∙ half_as_was c.loop-node.invariant.climbed (bounds g d).0 (inner g d)) (λ e. c.if-former-number.true (sym won ∙ e))
+    (won ∙ c.play-former.ensures.former ∙ half_as_was c.loop-node.invariant.climbed (bounds g d).0 (bounds g d).1.1) (λ e. c.if-former-number.true (sym won ∙ e))
 
 pub returns-clause-kept : goal.returns-clause-kept
 returns-clause-kept g c = ended _ _ c.loop-node.self c.loop-node.invariant.climbed c.loop-node.invariant.moments c.loop-node-test.false
