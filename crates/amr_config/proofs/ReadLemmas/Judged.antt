@@ -136,10 +136,6 @@ unfolding next
 judged_there path None rest found Q none h = by_findings _ (Fault path ∷ []) (found None) Q (sym none) (judged_fault path Q)
 judged_there path (Some x) rest found Q none h = h x refl
 
--- a text, and then what its reader makes of it
-pub judged_spelled : {A : Type 0} (rest : Text → Reading A) (found : Option Text → List Finding) (path : List ℕ) (d : Data) (Q : A → Type 0) → found None ≡ Fault path ∷ [] → ((text : Text) → IsText d text → Judged (rest text) (found (Some text)) Q) → Judged (next (text_at path d) rest) (found (as_str d)) Q
-judged_spelled rest found path d Q none h = judged_there path (as_str d) rest found Q none h
-
 -- ---- lists
 
 -- each item added to those before it
@@ -163,21 +159,14 @@ judged_each f found path Step All none more i (item d ds) a h =
     judged_then (f i d a) (items_in_turn f (i + 1) ds) (found (item_path path i) d) (each_found found path (i + 1) ds) (Step i d a) (All i (item d ds) a) (h i d a) (λ b step.
     judged_as (items_in_turn f (i + 1) ds b) (each_found found path (i + 1) ds) (All (i + 1) ds b) (All i (item d ds) a) (judged_each f found path Step All none more (i + 1) ds b h) (λ c rest. more i d ds a b c step rest))
 
--- the items of a list
-pub judged_items : {A : Type 0} (rest : Items → Reading A) (found : Option Items → List Finding) (path : List ℕ) (d : Data) (Q : A → Type 0) → found None ≡ Fault path ∷ [] → ((ds : Items) → as_array d ≡ Some ds → Judged (rest ds) (found (Some ds)) Q) → Judged (next (items_at path d) rest) (found (as_array d)) Q
-judged_items rest found path d Q none h = judged_there path (as_array d) rest found Q none h
-
 -- a list whose items are added one after another
 pub judged_list : {B : Type 0} (f : ℕ → Data → List B → Reading (List B)) (found : List ℕ → Data → List Finding) (path : List ℕ) (d : Data) (Is : ℕ → Data → B → Type 0) → ((i : ℕ) (d : Data) (before : List B) → Judged (f i d before) (found (item_path path i) d) (Adds Is i d before)) → Judged (next (items_at path d) (λ ds. items_in_turn f 0 ds [])) (list_found found path d) (λ xs. (ds : Items) × (as_array d ≡ Some ds) × StatesEach Is 0 ds xs)
 judged_list f found path d Is h =
-    judged_items (λ ds. items_in_turn f 0 ds []) (items_found found path) path d _ refl (λ ds is.
+    judged_there path (as_array d) (λ ds. items_in_turn f 0 ds []) (items_found found path) _ refl (λ ds is.
     judged_as (items_in_turn f 0 ds []) (each_found found path 0 ds) (AddsEach Is 0 ds []) _ (judged_each f found path (Adds Is) (AddsEach Is) (adds_none Is) (adds_more Is) 0 ds [] h) (λ xs (more, same, are). (ds, is, rw same are)))
-
--- an item that is read, and added
-pub judged_added : {B : Type 0} (read : Reading B) (fs : List Finding) (Is : ℕ → Data → B → Type 0) (i : ℕ) (d : Data) (before : List B) → Judged read fs (Is i d) → Judged (next read (λ x. give (before ++ x ∷ []))) fs (Adds Is i d before)
-judged_added read fs Is i d before h = judged_map read (λ x. before ++ x ∷ []) fs (Is i d) (Adds Is i d before) h (λ x is. (x, refl, is))
 
 -- a list whose items are read one by one
 pub judged_list_of : {B : Type 0} (read : List ℕ → Data → Reading B) (found : List ℕ → Data → List Finding) (Is : Data → B → Type 0) → ((path : List ℕ) (d : Data) → Judged (read path d) (found path d) (Is d)) → (path : List ℕ) (d : Data) → Judged (next (items_at path d) (λ ds. items_in_turn (λ i d before. next (read (item_path path i) d) (λ x. give (before ++ x ∷ []))) 0 ds [])) (list_found found path d) (IsListOf Is d)
 judged_list_of read found Is h path d =
-    judged_list (λ i d before. next (read (item_path path i) d) (λ x. give (before ++ x ∷ []))) found path d (λ i. Is) (λ i d before. judged_added (read (item_path path i) d) (found (item_path path i) d) (λ i. Is) i d before (h (item_path path i) d))
+    judged_list (λ i d before. next (read (item_path path i) d) (λ x. give (before ++ x ∷ []))) found path d (λ i. Is) (λ i d before.
+    judged_map _ (λ x. before ++ x ∷ []) _ _ _ (h (item_path path i) d) (λ x is. (x, refl, is)))

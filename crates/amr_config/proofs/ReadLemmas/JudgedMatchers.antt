@@ -3,7 +3,7 @@
 use Rattle.std.proofs.Common.{◌≡◌, ℕ, true, false, if◌then◌else◌, List, [], ◌∷◌, ◌++◌, length, map, Option, Some, None, refl, sym, ap, ◌∙◌, append_assoc, codes, option_and_then, unwrap_or, ◌==◌, flat_map, filter, append-nil}
 use Rattle.std.specs.Option.{option_map_or}
 use Rattle.serde_json.specs.Data.{Data, Items, Members, no_members, member}
-use Rattle.serde_json.specs.Find.{as_object}
+use Rattle.serde_json.specs.Find.{as_str, as_object, as_array}
 use Rattle.amr_labels.specs.Labels.{Text}
 use Rattle.amr_labels.specs.Matcher.Matchers.{Matcher, takes_pattern}
 use Rattle.amr_labels.specs.Matcher.MatcherReading.{matchers_of}
@@ -16,7 +16,7 @@ use Rattle.amr_config.specs.Read.ReadMatchers.{matcher_at, stated_into, matcher_
 use Rattle.amr_config.specs.Read.ReadRules.{rule_at, rule_into, rules_list, rules_at}
 use Rattle.amr_config.specs.Read.Table.{IsText, IsListOf, StatesEach, StatesIf, StatesOr, MatcherOf, MatchersOf, IsMatchObject, IsMatcherText, IsMatcherList, StatesMatchers, IsRule}
 use Rattle.amr_config.specs.Read.Faults.{Finding, Fault, Pattern, first_fault, patterns_before, text_found, items_found, list_found, if_there, at, patterns_found, matchers_found, matcher_text_found, value_found, values_found, members_found, match_object_found, match_found, rule_found}
-use Rattle.amr_config.proofs.ReadLemmas.Judged.{Judged, by_findings, judged_ok, judged_fault, judged_then, judged_as, judged_map, judged_stated, judged_text, judged_object, judged_spelled, judged_there, judged_each, judged_items, judged_list_of}
+use Rattle.amr_config.proofs.ReadLemmas.Judged.{Judged, by_findings, judged_ok, judged_fault, judged_then, judged_as, judged_map, judged_stated, judged_text, judged_object, judged_there, judged_each, judged_list_of}
 use Rattle.amr_config.proofs.ReadLemmas.JudgedParts.{judged_texts}
 
 -- ---- patterns
@@ -109,7 +109,7 @@ walk_spelled path (Some ms) = judged_as (matchers_met path ms) (patterns_found p
 walk_text : (path : List ℕ) (i : ℕ) (d : Data) (matchers : List Matcher) → Judged (spelled_into path i d matchers) (matcher_text_found (item_path path i) d) (AddsThose (IsMatcherText d) matchers)
 unfolding spelled_into
 walk_text path i d matchers =
-    judged_spelled (λ text. next (spelled_at (item_path path i) (matchers_of text)) (λ more. give (matchers ++ more))) (λ o. matchers_found (item_path path i) (option_and_then matchers_of o)) (item_path path i) d (AddsThose (IsMatcherText d) matchers) refl (λ text is.
+    judged_there (item_path path i) (as_str d) (λ text. next (spelled_at (item_path path i) (matchers_of text)) (λ more. give (matchers ++ more))) (λ o. matchers_found (item_path path i) (option_and_then matchers_of o)) (AddsThose (IsMatcherText d) matchers) refl (λ text is.
     judged_map (spelled_at (item_path path i) (matchers_of text)) (λ more. matchers ++ more) (matchers_found (item_path path i) (matchers_of text)) _ _ (walk_spelled (item_path path i) (matchers_of text)) (λ more spells. (more, refl, (text, is, spells))))
 
 abbrev AddsTexts : ℕ → Items → List Matcher → List Matcher → Type 0
@@ -118,7 +118,7 @@ AddsTexts i ds before after = (lists : List (List Matcher)) × (after ≡ before
 walk_texts : (path : List ℕ) (d : Data) (matchers : List Matcher) → Judged (texts_into path d matchers) (list_found matcher_text_found path d) (AddsThose (IsMatcherList d) matchers)
 unfolding texts_into
 walk_texts path d matchers =
-    judged_items (λ ds. items_in_turn (spelled_into path) 0 ds matchers) (items_found matcher_text_found path) path d _ refl (λ ds is.
+    judged_there path (as_array d) (λ ds. items_in_turn (spelled_into path) 0 ds matchers) (items_found matcher_text_found path) _ refl (λ ds is.
     judged_as _ _ _ _
     (judged_each (spelled_into path) matcher_text_found path (λ i d. AddsThose (IsMatcherText d)) AddsTexts
     (λ i before. ([], sym (append-nil before), tt))
@@ -157,11 +157,7 @@ walk_rule path d =
     judged_map _ _ _ _ _ (walk_matchers path (codes "target_match") (codes "target_match_re") (codes "target_matchers") d) (λ target has_target.
     record { equal = (equal, has_equal, refl); source = has_source; target = has_target }))))
 
-walk_rule_list : (path : List ℕ) (d : Data) → Judged (rules_list path d) (list_found rule_found path d) (IsListOf IsRule d)
-unfolding rules_list rule_into
-walk_rule_list = judged_list_of rule_at rule_found IsRule walk_rule
-
 pub walk_rules : (d : Data) → Judged (rules_at d) (at (list_found rule_found) [] (codes "inhibit_rules") d) (StatesOr [] (IsListOf IsRule) (codes "inhibit_rules") d)
-unfolding rules_at
+unfolding rules_at rules_list rule_into
 walk_rules d =
-    judged_map _ _ _ _ _ (judged_stated rules_list (list_found rule_found) (IsListOf IsRule) [] (codes "inhibit_rules") d (walk_rule_list _)) (λ found states. (found, states, refl))
+    judged_map _ _ _ _ _ (judged_stated rules_list (list_found rule_found) (IsListOf IsRule) [] (codes "inhibit_rules") d (judged_list_of rule_at rule_found IsRule walk_rule _)) (λ found states. (found, states, refl))

@@ -4,7 +4,7 @@ use Rattle.std.specs.Option.{option_or, option_map_or}
 use Rattle.std.proofs.lemmas.List.Elements.{Contains-append_left, Contains-append_right, Contains-append_cases}
 use Rattle.std.proofs.lemmas.Option.{none-some, same_Some}
 use Rattle.serde_json.specs.Data.{Data, null, Items, no_items, item, Members, no_members, member}
-use Rattle.serde_json.specs.Find.{as_array, as_object, get_item}
+use Rattle.serde_json.specs.Find.{as_str, as_array, as_object, get_item}
 use Rattle.amr_labels.specs.Labels.{Text, text_cmp, text_cmp-IsAntisymmetric}
 use Rattle.amr_config.specs.declared.stated.receiver.Integration.{Integration}
 use Rattle.amr_config.specs.Read.Paths.{under, item_path}
@@ -14,7 +14,7 @@ use Rattle.amr_config.specs.Read.ReadReceivers.{default_of, entry_into, entries_
 use Rattle.amr_config.specs.Read.Table.{IsText, IsFlag, IsListOf, StatesEach, StatesIf, StatesOr, HasAt, IsIntegration, AreIntegrations, IsMember, StatesIntegration, IsReceiver}
 use Rattle.amr_config.specs.Read.Faults.{unless_some, unless, flag_found, list_found, if_there, at, entry_found, entries_found, kinds_found, side_found, receiver_name_found, receiver_found}
 use Rattle.std.proofs.lemmas.List.Sorted.{IsPermutation-refl, IsPermutation-sym, IsPermutation-cons, IsPermutation-append_comm, Contains-permutation}
-use Rattle.amr_config.proofs.ReadLemmas.Judged.{Judged, by_findings, judged_ok, judged_then, judged_as, judged_map, judged_or_faulty, judged_optional, judged_stated, judged_needed, judged_flag, judged_object, judged_spelled, judged_there, judged_unless, Adds, judged_list, judged_list_of}
+use Rattle.amr_config.proofs.ReadLemmas.Judged.{Judged, by_findings, judged_ok, judged_then, judged_as, judged_map, judged_or_faulty, judged_optional, judged_stated, judged_needed, judged_flag, judged_object, judged_there, judged_unless, Adds, judged_list, judged_list_of}
 
 -- ---- entries
 
@@ -35,10 +35,6 @@ judged_entry kind path i d integrations =
     (judged_map (or_faulty (item_path path i) (option_or said (default_of kind))) (λ sends. integrations ++ record { kind = kind; place = i; send_resolved = sends } ∷ []) _ (λ sends. option_or said (default_of kind) ≡ Some sends) _ (judged_or_faulty (item_path path i) (option_or said (default_of kind)) _ (λ sends is. is))
     (λ sends is. (record { kind = kind; place = i; send_resolved = sends }, refl, record { said = said; kind_is = refl; place_is = refl; says = says; sends = is })))))
 
-judged_entries : (kind : Text) (path : List ℕ) (d : Data) → Judged (entries_at kind path d) (list_found (entry_found kind) path d) (AreIntegrations kind d)
-unfolding entries_at
-judged_entries kind path d = judged_list (entry_into kind path) (entry_found kind) path d (IsIntegration kind) (judged_entry kind path)
-
 -- ---- kinds
 
 -- the entries of a member that may be null
@@ -46,9 +42,9 @@ abbrev pub HasEntries : Text → Data → List Integration → Type 0
 HasEntries kind d integrations = (found : Option (List Integration)) × StatesIf (AreIntegrations kind) (unless_null (Some d)) found × (integrations ≡ unwrap_or found [])
 
 judged_stated_entries : (kind : Text) (path : List ℕ) (d : Data) → Judged (stated_entries kind path d) (if_there (list_found (entry_found kind) path) (unless_null (Some d))) (HasEntries kind d)
-unfolding stated_entries
+unfolding stated_entries entries_at
 judged_stated_entries kind path d =
-    judged_map _ (λ found. unwrap_or found []) _ _ _ (judged_optional (entries_at kind path) (list_found (entry_found kind) path) (AreIntegrations kind) (unless_null (Some d)) (judged_entries kind path)) (λ found states. (found, states, refl))
+    judged_map _ (λ found. unwrap_or found []) _ _ _ (judged_optional (entries_at kind path) (list_found (entry_found kind) path) (AreIntegrations kind) (unless_null (Some d)) (λ v. judged_list (entry_into kind path) (entry_found kind) path v (IsIntegration kind) (judged_entry kind path))) (λ found states. (found, states, refl))
 
 -- what a member does to the integrations, if its key names a kind
 abbrev pub KindFrom : Option Text → Data → List Integration → List Integration → Type 0
@@ -92,11 +88,6 @@ unfolding kinds_at
 judged_side side path d before =
     judged_there path (as_object d) _ (side_found side path) _ refl (λ ms is.
     judged_as (members_in_turn (kind_into side path) ms before) _ _ _ (judged_kinds side path ms before) (λ after from. (ms, is, from)))
-
-judged_name : (path : List ℕ) (d : Data) → Judged (name_at path d) (receiver_name_found path d) (IsText d)
-unfolding name_at
-judged_name path d =
-    judged_spelled (λ text. if length text == 0 then faulty path else give text) (λ o. unless path (option_map_or (λ name. not (length name == 0)) o false)) path d (IsText d) refl (λ text is. judged_unless (length text == 0) text path (IsText d) is)
 
 -- ---- the integrations are those that are stated
 
@@ -279,17 +270,15 @@ read_receiver d name first all (ms, is_object, before) has (other, also, after) 
     }
 
 judged_receiver : (path : List ℕ) (d : Data) → Judged (receiver_at path d) (receiver_found path d) (IsReceiver d)
-unfolding receiver_at
+unfolding receiver_at name_at
 judged_receiver path d =
     judged_then _ _ _ _ _ _ (judged_side true path d []) (λ first before.
-    judged_then _ _ _ _ _ _ (judged_needed name_at receiver_name_found IsText path (codes "name") d (judged_name _)) (λ name has.
+    judged_then _ _ _ _ _ _ (judged_needed name_at receiver_name_found IsText path (codes "name") d (λ v.
+    judged_there (under path (codes "name")) (as_str v) (λ text. if length text == 0 then faulty (under path (codes "name")) else give text) (λ o. unless (under path (codes "name")) (option_map_or (λ name. not (length name == 0)) o false)) (IsText v) refl (λ text is.
+    judged_unless (length text == 0) text (under path (codes "name")) (IsText v) is))) (λ name has.
     judged_map _ _ _ _ _ (judged_side false path d first) (λ all after. read_receiver d name first all before has after)))
 
-judged_receiver_list : (path : List ℕ) (d : Data) → Judged (receivers_list path d) (list_found receiver_found path d) (IsListOf IsReceiver d)
-unfolding receivers_list receiver_into
-judged_receiver_list = judged_list_of receiver_at receiver_found IsReceiver judged_receiver
-
 pub judged_receivers : (d : Data) → Judged (receivers_at d) (at (list_found receiver_found) [] (codes "receivers") d) (StatesOr [] (IsListOf IsReceiver) (codes "receivers") d)
-unfolding receivers_at
+unfolding receivers_at receivers_list receiver_into
 judged_receivers d =
-    judged_map _ _ _ _ _ (judged_stated receivers_list (list_found receiver_found) (IsListOf IsReceiver) [] (codes "receivers") d (judged_receiver_list _)) (λ found states. (found, states, refl))
+    judged_map _ _ _ _ _ (judged_stated receivers_list (list_found receiver_found) (IsListOf IsReceiver) [] (codes "receivers") d (judged_list_of receiver_at receiver_found IsReceiver judged_receiver _)) (λ found states. (found, states, refl))

@@ -15,7 +15,7 @@ use Rattle.amr_config.specs.Read.RouteParts.{grouping_stated, children_at, is_de
 use Rattle.amr_config.specs.Read.ReadRoutes.{route_at, own_into, add_route, child_into, tree_from, routes_at}
 use Rattle.amr_config.specs.Read.Walking.{walked_at}
 use Rattle.amr_config.specs.Read.Table.{IsText, IsFlag, IsDuration, IsListOf, StatesIf, States, HasAt, IsGrouping, IsDefinedName, IsRoute, IsArray, IsTree, Tree, AreTrees, NoMore, OneMore, StatesWhole}
-use Rattle.amr_config.specs.Read.Faults.{Finding, Fault, text_found, flag_found, object_found, spelled_found, each_found, items_found, list_found, if_there, at, if_there_or, needed_at, match_found, defined_name_found, route_found, global_found, rule_found, receiver_found, interval_list_found, names_under, findings_of}
+use Rattle.amr_config.specs.Read.Faults.{Finding, Fault, text_found, flag_found, object_found, spelled_found, each_found, items_found, list_found, if_there, at, if_there_or, needed_at, match_found, defined_name_found, route_found, global_found, interval_list_found, findings_of}
 use Rattle.amr_config.proofs.ReadLemmas.Judged.{Judged, told, by_findings, judged_ok, judged_fault, judged_then, judged_as, judged_map, judged_stated, judged_text, judged_flag, judged_object}
 use Rattle.amr_config.proofs.ReadLemmas.JudgedParts.{judged_texts, judged_span, judged_names, judged_timeout, judged_defined, names_under_read}
 use Rattle.amr_config.proofs.ReadLemmas.JudgedReceivers.{judged_receivers}
@@ -158,23 +158,11 @@ walk_routes d shallow = walk_tree d (member_of (codes "route") d) shallow
 
 -- ---- a whole configuration
 
-whole_found : Data → List Finding
-whole_found d =
-    (object_found [] d ++ at global_found [] (codes "global") d)
-    ++ (at (list_found rule_found) [] (codes "inhibit_rules") d
-    ++ (if_there (λ v. interval_list_found [] (codes "mute_time_intervals") (as_array v)) (member_of (codes "mute_time_intervals") d)
-    ++ (at (list_found receiver_found) [] (codes "receivers") d
-    ++ (needed_at (route_found d 32) [] (codes "route") d
-    ++ if_there (λ v. interval_list_found (names_under (codes "mute_time_intervals") d) (codes "time_intervals") (as_array v)) (member_of (codes "time_intervals") d)))))
-
-whole_in_order : (d : Data) → whole_found d ≡ findings_of d
-unfolding whole_found findings_of
-whole_in_order d = append_assoc (object_found [] d) (at global_found [] (codes "global") d) _
-
-walk_whole : (d : Data) → is_too_deep d ≡ false → Judged (walked_at d) (whole_found d) (StatesWhole d)
-unfolding walked_at whole_found
-walk_whole d shallow =
-    judged_then _ _ _ _ _ _ (judged_timeout d) (λ timeout has_timeout.
+pub walked_judged : (d : Data) → is_too_deep d ≡ false → Judged (walked_at d) (findings_of d) (StatesWhole d)
+unfolding walked_at findings_of
+walked_judged d shallow =
+    by_findings _ _ _ _ (append_assoc (object_found [] d) (at global_found [] (codes "global") d) _)
+    (judged_then _ _ _ _ _ _ (judged_timeout d) (λ timeout has_timeout.
     judged_then _ _ _ _ _ _ (walk_rules d) (λ rules has_rules.
     judged_then _ _ _ _ _ _ (judged_defined (codes "mute_time_intervals") d []) (λ mute (of_mute, same_mute, has_mute).
     judged_then _ _ _ _ _ _ (judged_receivers d) (λ receivers has_receivers.
@@ -187,7 +175,4 @@ walk_whole d shallow =
       receivers = has_receivers;
       time_intervals = record { mute = mute; named = of_named; of_mute = rw same_mute has_mute; of_named = has_named; all = same_named };
       routes = has_routes;
-    })))))))
-
-pub walked_judged : (d : Data) → is_too_deep d ≡ false → Judged (walked_at d) (findings_of d) (StatesWhole d)
-walked_judged d shallow = by_findings _ _ _ _ (whole_in_order d) (walk_whole d shallow)
+    }))))))))
