@@ -1,6 +1,7 @@
 -- The routes have more levels than are left exactly if a route is that deep.
-use Rattle.std.proofs.Common.{◌≡◌, ℕ, zero, suc, ◌+◌, ◌-◌, Bool, true, false, Option, Some, None, refl, subst, arith, codes}
+use Rattle.std.proofs.Common.{◌≡◌, ℕ, zero, suc, ◌+◌, ◌-◌, Bool, true, false, Option, Some, None, inl, inr, refl, subst, arith, codes}
 use Rattle.std.specs.Option.{option_map_or}
+use Rattle.std.proofs.lemmas.Bool.{or_cases}
 use Rattle.serde_json.specs.Data.{Data, array, Items, no_items, item}
 use Rattle.serde_json.specs.Find.{get_item}
 use Rattle.amr_config.specs.Read.Members.{member_of, any_item, list_in}
@@ -10,13 +11,11 @@ use Rattle.amr_config.specs.Read.Levels.{IsAtLevel, Root, Below, HasDeepRoute}
 -- an item that passes the test has an index
 any_found : (p : Data → Bool) (ds : Items) → any_item p ds ≡ true → (index : ℕ) × (d : Data) × (get_item index ds ≡ Some d) × (p d ≡ true)
 any_found p no_items e = absurd (cc)
-any_found p (item d ds) e = go (p d) refl (any_found p ds)
-  where
-    go : (b : Bool) → p d ≡ b → (any_item p ds ≡ true → (index : ℕ) × (e : Data) × (get_item index ds ≡ Some e) × (p e ≡ true)) → (index : ℕ) × (e : Data) × (get_item index (item d ds) ≡ Some e) × (p e ≡ true)
-    go true is later = (0, d, refl, is)
-    go false is later =
-        let (index, found, at, holds) = later (grind arith) in
-        (suc index, found, at, holds)
+any_found p (item d ds) e =
+    elim (or_cases (p d) (any_item p ds) e) [
+      | inl is ↦ (0, d, refl, is)
+      | inr later ↦ let (index, found, at, holds) = any_found p ds later in (suc index, found, at, holds)
+    ]
 
 any_from : (p : Data → Bool) (ds : Items) (index : ℕ) (d : Data) → get_item index ds ≡ Some d → p d ≡ true → any_item p ds ≡ true
 any_from p no_items index d at holds = absurd (cc)
@@ -46,18 +45,15 @@ goes_down whole (suc left) d level at e =
     let same : level + 1 + left ≡ level + suc left = omega arith in
     (route, subst (λ n. IsAtLevel whole route n) same below)
 
-one_up : (left : ℕ) (above d : Data) (list : Items) (index : ℕ) → member_of (codes "routes") above ≡ Some (array list) → get_item index list ≡ Some d → is_deeper left d ≡ true → is_deeper (suc left) above ≡ true
-unfolding is_deeper
-one_up left above d list index is at e = rw is (any_from (is_deeper left) list index d at e)
-
 -- the levels below the root count from there
 goes_up : (whole root d : Data) (level : ℕ) → IsAtLevel whole d level → member_of (codes "route") whole ≡ Some root → (left most : ℕ) → level + left ≡ suc most → is_deeper left d ≡ true → is_deeper most root ≡ true
+unfolding is_deeper
 goes_up whole root _ _ (Root top is) there left most sum e =
     let same : top ≡ root = cc in
     let as_many : left ≡ most = omega arith in
     rw (same, as_many) at e
 goes_up whole root _ _ (Below above list index d level at is found) there left most sum e =
-    goes_up whole root above level at there (suc left) most (omega arith) (one_up left above d list index is found e)
+    goes_up whole root above level at there (suc left) most (omega arith) (rw is (any_from (is_deeper left) list index d found e))
 
 root_there : (whole d : Data) (level : ℕ) → IsAtLevel whole d level → (root : Data) × (member_of (codes "route") whole ≡ Some root)
 root_there whole _ _ (Root root is) = (root, is)

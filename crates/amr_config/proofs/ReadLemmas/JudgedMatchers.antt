@@ -85,20 +85,17 @@ walk_members operator path (member name d ms) matchers =
     judged_then (matcher_into operator path name d matchers) (members_in_turn (matcher_into operator path) ms) _ (values_found operator path ms) _ (AddsThose (MatchersOf operator (member name d ms)) matchers) (walk_member operator path name d matchers) (λ one first.
     judged_as (members_in_turn (matcher_into operator path) ms one) (values_found operator path ms) (AddsThose (MatchersOf operator ms) one) _ (walk_members operator path ms one) (λ after rest. adds_matchers operator name d ms matchers one after first rest))
 
-walk_object : (operator : Operator) (path : List ℕ) (d : Data) (matchers : List Matcher) → Judged (members_into operator path d matchers) (match_object_found operator path d) (AddsThose (IsMatchObject operator d) matchers)
-unfolding members_into
-walk_object operator path d matchers =
-    judged_there path (as_object d) _ (members_found operator path) _ refl (λ ms is.
-    judged_as (members_in_turn (matcher_into operator path) ms matchers) (values_found operator path ms) (AddsThose (MatchersOf operator ms) matchers) _ (walk_members operator path ms matchers) (λ after (more, adds, of). (more, adds, (ms, is, of))))
-
 -- a member that may be absent
 walk_under : (reads : Data → List Matcher → Reading (List Matcher)) (found : Data → List Finding) (Are : Data → List Matcher → Type 0) (o : Option Data) (matchers : List Matcher) → ((d : Data) → Judged (reads d matchers) (found d) (AddsThose (Are d) matchers)) → Judged (if_present reads o matchers) (if_there found o) (AddsThose (λ more. (states : Option (List Matcher)) × StatesIf Are o states × (more ≡ unwrap_or states [])) matchers)
 walk_under reads found Are None matchers h = judged_ok matchers _ ([], sym (append-nil matchers), (None, tt, refl))
 walk_under reads found Are (Some d) matchers h = judged_as (reads d matchers) (found d) _ _ (h d) (λ after (more, adds, are). (more, adds, (Some more, are, refl)))
 
 walk_object_under : (operator : Operator) (path : List ℕ) (key : Text) (d : Data) (matchers : List Matcher) → Judged (object_into operator path key d matchers) (at (match_object_found operator) path key d) (AddsThose (StatesOr [] (IsMatchObject operator) key d) matchers)
-unfolding object_into
-walk_object_under operator path key d matchers = walk_under (members_into operator (under path key)) (match_object_found operator (under path key)) (IsMatchObject operator) (member_of key d) matchers (λ v. walk_object operator (under path key) v matchers)
+unfolding object_into members_into
+walk_object_under operator path key d matchers =
+    walk_under (members_into operator (under path key)) (match_object_found operator (under path key)) (IsMatchObject operator) (member_of key d) matchers (λ v.
+    judged_there (under path key) (as_object v) _ (members_found operator (under path key)) _ refl (λ ms is.
+    judged_as (members_in_turn (matcher_into operator (under path key)) ms matchers) (values_found operator (under path key) ms) (AddsThose (MatchersOf operator ms) matchers) _ (walk_members operator (under path key) ms matchers) (λ after (more, adds, of). (more, adds, (ms, is, of)))))
 
 -- ---- texts of matchers
 
@@ -115,20 +112,17 @@ walk_text path i d matchers =
 abbrev AddsTexts : ℕ → Items → List Matcher → List Matcher → Type 0
 AddsTexts i ds before after = (lists : List (List Matcher)) × (after ≡ before ++ flat_map (λ list. list) lists) × StatesEach (λ i. IsMatcherText) i ds lists
 
-walk_texts : (path : List ℕ) (d : Data) (matchers : List Matcher) → Judged (texts_into path d matchers) (list_found matcher_text_found path d) (AddsThose (IsMatcherList d) matchers)
-unfolding texts_into
-walk_texts path d matchers =
-    judged_there path (as_array d) (λ ds. items_in_turn (spelled_into path) 0 ds matchers) (items_found matcher_text_found path) _ refl (λ ds is.
+walk_texts_under : (path : List ℕ) (key : Text) (d : Data) (matchers : List Matcher) → Judged (list_into path key d matchers) (at (list_found matcher_text_found) path key d) (AddsThose (StatesOr [] IsMatcherList key d) matchers)
+unfolding list_into texts_into
+walk_texts_under path key d matchers =
+    walk_under (texts_into (under path key)) (list_found matcher_text_found (under path key)) IsMatcherList (member_of key d) matchers (λ v.
+    judged_there (under path key) (as_array v) (λ ds. items_in_turn (spelled_into (under path key)) 0 ds matchers) (items_found matcher_text_found (under path key)) _ refl (λ ds is.
     judged_as _ _ _ _
-    (judged_each (spelled_into path) matcher_text_found path (λ i d. AddsThose (IsMatcherText d)) AddsTexts
+    (judged_each (spelled_into (under path key)) matcher_text_found (under path key) (λ i d. AddsThose (IsMatcherText d)) AddsTexts
     (λ i before. ([], sym (append-nil before), tt))
     (λ i d ds before one after (list, adds, is) (lists, rest, are). (list ∷ lists, rest ∙ ap (λ l. l ++ flat_map (λ list. list) lists) adds ∙ append_assoc before list (flat_map (λ list. list) lists), (is, are)))
-    0 ds matchers (walk_text path))
-    (λ after (lists, adds, are). (flat_map (λ list. list) lists, adds, (lists, (ds, is, are), refl))))
-
-walk_texts_under : (path : List ℕ) (key : Text) (d : Data) (matchers : List Matcher) → Judged (list_into path key d matchers) (at (list_found matcher_text_found) path key d) (AddsThose (StatesOr [] IsMatcherList key d) matchers)
-unfolding list_into
-walk_texts_under path key d matchers = walk_under (texts_into (under path key)) (list_found matcher_text_found (under path key)) IsMatcherList (member_of key d) matchers (λ v. walk_texts (under path key) v matchers)
+    0 ds matchers (walk_text (under path key)))
+    (λ after (lists, adds, are). (flat_map (λ list. list) lists, adds, (lists, (ds, is, are), refl)))))
 
 pub walk_matchers : (path : List ℕ) (equal patterns texts : Text) (d : Data) → Judged (matchers_at path equal patterns texts d) (match_found equal patterns texts path d) (StatesMatchers equal patterns texts d)
 unfolding matchers_at

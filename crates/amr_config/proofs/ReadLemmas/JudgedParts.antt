@@ -40,11 +40,6 @@ judged_time spelled path d =
 
 -- ---- time intervals
 
-judged_ranges : {A : Type 0} (reads : Data → Option A) (path : List ℕ) (d : Data) → Judged (ranges_at reads path d) (list_found (range_found reads) path d) (IsListOf (IsRange reads) d)
-unfolding ranges_at range_into
-judged_ranges reads =
-    judged_list_of (λ path d. or_faulty path (reads d)) (range_found reads) (IsRange reads) (λ path d. judged_or_faulty path (reads d) (IsRange reads d) (λ x is. is))
-
 time_there : (spelled : Text → Option ℕ) (key : Text) (d : Data) (time : ℕ) → HasAt (IsTime spelled) key d time → time_in spelled key d ≡ Some time
 time_there spelled key d time (v, at, (text, is, spells)) = grind arith
 
@@ -68,7 +63,10 @@ judged_location path d =
     judged_if (is_utc text) true path (IsLocation d) (λ utc. tt))
 
 judged_ranges_under : {A : Type 0} (reads : Data → Option A) (path key : List ℕ) (d : Data) → Judged (optional_member (ranges_at reads) path key d) (at (list_found (range_found reads)) path key d) (States (IsListOf (IsRange reads)) key d)
-judged_ranges_under reads path key d = judged_stated (ranges_at reads) (list_found (range_found reads)) (IsListOf (IsRange reads)) path key d (judged_ranges reads (under path key))
+unfolding ranges_at range_into
+judged_ranges_under reads path key d =
+    judged_stated (ranges_at reads) (list_found (range_found reads)) (IsListOf (IsRange reads)) path key d
+    (judged_list_of (λ path d. or_faulty path (reads d)) (range_found reads) (IsRange reads) (λ path d. judged_or_faulty path (reads d) (IsRange reads d) (λ x is. is)) (under path key))
 
 judged_interval_member : (path : List ℕ) (d : Data) → Judged (interval_member_at path d) (interval_member_found path d) (IsIntervalMember d)
 unfolding interval_member_at times_at time_range_into
@@ -150,15 +148,12 @@ names_under_read key d intervals (found, states, is) = go (member_of key d) foun
 
 -- ---- names at routes
 
-judged_name_into : (whole : Data) (path : List ℕ) (i : ℕ) (d : Data) (names : List Text) → Judged (name_into whole path i d names) (defined_name_found whole (item_path path i) d) (Adds (λ i. IsDefinedName whole) i d names)
-unfolding name_into
-judged_name_into whole path i d names =
-    judged_there (item_path path i) (as_str d) (λ name. if is_defined whole name then give (names ++ name ∷ []) else faulty (item_path path i)) (λ o. unless (item_path path i) (option_map_or (is_defined whole) o false)) (Adds (λ i. IsDefinedName whole) i d names) refl (λ name is.
-    judged_if (is_defined whole name) (names ++ name ∷ []) (item_path path i) (Adds (λ i. IsDefinedName whole) i d names) (λ defined. (name, refl, (is, defined))))
-
 pub judged_names : (whole : Data) (path : List ℕ) (d : Data) → Judged (names_at whole path d) (list_found (defined_name_found whole) path d) (IsListOf (IsDefinedName whole) d)
-unfolding names_at
-judged_names whole path d = judged_list (name_into whole path) (defined_name_found whole) path d (λ i. IsDefinedName whole) (judged_name_into whole path)
+unfolding names_at name_into
+judged_names whole path d =
+    judged_list (name_into whole path) (defined_name_found whole) path d (λ i. IsDefinedName whole) (λ i d names.
+    judged_there (item_path path i) (as_str d) (λ name. if is_defined whole name then give (names ++ name ∷ []) else faulty (item_path path i)) (λ o. unless (item_path path i) (option_map_or (is_defined whole) o false)) (Adds (λ i. IsDefinedName whole) i d names) refl (λ name is.
+    judged_if (is_defined whole name) (names ++ name ∷ []) (item_path path i) (Adds (λ i. IsDefinedName whole) i d names) (λ defined. (name, refl, (is, defined)))))
 
 -- ---- the timeout
 

@@ -12,7 +12,7 @@ use Rattle.amr_config.specs.Read.Members.{unless_null, member_of, or_faulty, fla
 use Rattle.amr_config.specs.Read.Readings.{give, faulty, members_in_turn}
 use Rattle.amr_config.specs.Read.ReadReceivers.{default_of, entry_into, entries_at, is_on_side, kind_key, stated_entries, with_entries, entries_under, kind_into, kinds_at, name_at, receiver_at, receiver_into, receivers_list, receivers_at}
 use Rattle.amr_config.specs.Read.Table.{IsText, IsFlag, IsListOf, StatesEach, StatesIf, StatesOr, HasAt, IsIntegration, AreIntegrations, IsMember, StatesIntegration, IsReceiver}
-use Rattle.amr_config.specs.Read.Faults.{unless_some, unless, flag_found, list_found, if_there, at, entry_found, entries_found, kinds_found, side_found, receiver_name_found, receiver_found}
+use Rattle.amr_config.specs.Read.Faults.{unless_some, unless, flag_found, list_found, at, entry_found, entries_found, kinds_found, side_found, receiver_name_found, receiver_found}
 use Rattle.std.proofs.lemmas.List.Sorted.{IsPermutation-refl, IsPermutation-sym, IsPermutation-cons, IsPermutation-append_comm, Contains-permutation}
 use Rattle.amr_config.proofs.ReadLemmas.Judged.{Judged, by_findings, judged_ok, judged_then, judged_as, judged_map, judged_or_faulty, judged_optional, judged_stated, judged_needed, judged_flag, judged_object, judged_there, judged_unless, Adds, judged_list, judged_list_of}
 
@@ -41,11 +41,6 @@ judged_entry kind path i d integrations =
 abbrev pub HasEntries : Text → Data → List Integration → Type 0
 HasEntries kind d integrations = (found : Option (List Integration)) × StatesIf (AreIntegrations kind) (unless_null (Some d)) found × (integrations ≡ unwrap_or found [])
 
-judged_stated_entries : (kind : Text) (path : List ℕ) (d : Data) → Judged (stated_entries kind path d) (if_there (list_found (entry_found kind) path) (unless_null (Some d))) (HasEntries kind d)
-unfolding stated_entries entries_at
-judged_stated_entries kind path d =
-    judged_map _ (λ found. unwrap_or found []) _ _ _ (judged_optional (entries_at kind path) (list_found (entry_found kind) path) (AreIntegrations kind) (unless_null (Some d)) (λ v. judged_list (entry_into kind path) (entry_found kind) path v (IsIntegration kind) (judged_entry kind path))) (λ found states. (found, states, refl))
-
 -- what a member does to the integrations, if its key names a kind
 abbrev pub KindFrom : Option Text → Data → List Integration → List Integration → Type 0
 KindFrom None d before after = after ≡ before
@@ -56,9 +51,11 @@ abbrev pub kind_on : Bool → Text → Option Text
 kind_on side key = if is_on_side side key then kind_key key else None
 
 judged_named : (path : List ℕ) (d : Data) (before : List Integration) (o : Option Text) → Judged (entries_under path d before o) (entries_found path d o) (KindFrom o d before)
+unfolding stated_entries entries_at
 judged_named path d before None = judged_ok before _ refl
 judged_named path d before (Some kind) =
-    judged_map (stated_entries kind path d) (λ entries. with_entries before kind entries) _ (HasEntries kind d) (KindFrom (Some kind) d before) (judged_stated_entries kind path d) (λ entries has. (entries, has, refl))
+    judged_map (stated_entries kind path d) (λ entries. with_entries before kind entries) _ (HasEntries kind d) (KindFrom (Some kind) d before)
+    (judged_map _ (λ found. unwrap_or found []) _ _ _ (judged_optional (entries_at kind path) (list_found (entry_found kind) path) (AreIntegrations kind) (unless_null (Some d)) (λ v. judged_list (entry_into kind path) (entry_found kind) path v (IsIntegration kind) (judged_entry kind path))) (λ found states. (found, states, refl))) (λ entries has. (entries, has, refl))
 
 judged_kind : (side : Bool) (path : List ℕ) (key : Text) (d : Data) (before : List Integration) → Judged (kind_into side path key d before) (if is_on_side side key then entries_found (under path key) d (kind_key key) else []) (KindFrom (kind_on side key) d before)
 unfolding kind_into

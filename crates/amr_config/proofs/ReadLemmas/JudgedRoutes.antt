@@ -135,15 +135,11 @@ route_grows whole parent d routes own after (route, adds, of, is) (children, fou
     let long : length own ≡ length routes + 1 = ap length adds ∙ length-append routes (route ∷ []) in
     (route ∷ trees, rest ∙ ap (λ l. l ++ trees) adds ∙ append_assoc routes (route ∷ []) trees, Tree (length routes) parent d route children trees is of (found, states, same) (subst (λ n. AreTrees whole n (length routes) children trees) long are))
 
-found_in_order : (whole : Data) (left : ℕ) (path : List ℕ) (d : Data) → own_found whole path d ++ at (list_found (route_found whole left)) path (codes "routes") d ≡ route_found whole (suc left) path d
-unfolding own_found route_found
-found_in_order whole left path d = simp append_assoc
-
 walk_route : (whole : Data) (left : ℕ) → JudgesTree whole left
-unfolding add_route is_deeper
+unfolding add_route is_deeper own_found route_found
 walk_route whole zero path parent d routes shallow = absurd (true≢false shallow)
 walk_route whole (suc left) path parent d routes shallow =
-    by_findings _ (own_found whole path d ++ at (list_found (route_found whole left)) path (codes "routes") d) _ _ (found_in_order whole left path d)
+    by_findings _ (own_found whole path d ++ at (list_found (route_found whole left)) path (codes "routes") d) _ _ (simp append_assoc)
     (judged_then (own_into whole path parent d routes) _ (own_found whole path d) (at (list_found (route_found whole left)) path (codes "routes") d) (AddsRoute whole parent d routes) _ (walk_own whole path parent d routes) (λ own adds.
     judged_as _ _ _ _ (walk_below whole left path (length routes) d own (walk_route whole left) shallow) (λ after below. route_grows whole parent d routes own after adds below)))
 

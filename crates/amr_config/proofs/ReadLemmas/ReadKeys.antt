@@ -5,7 +5,7 @@ use Rattle.std.specs.Ordering.{match_ordering, ordering_reverse}
 use Rattle.std.proofs.lemmas.Option.{none-some, same_Some}
 use Rattle.json.specs.Json as json
 use Rattle.json.specs.Lex.{tokens}
-use Rattle.serde_json.specs.Data.{Data, null, boolean, number, string, array, object, Items, no_items, item, Members, no_members, member, put}
+use Rattle.serde_json.specs.Data.{Data, number, array, object, Items, no_items, item, Members, no_members, member, put}
 use Rattle.serde_json.specs.Read.{number_of, of_json, of_items, of_members, read, max_depth}
 use Rattle.amr_labels.specs.Labels.{Text, text_cmp}
 use Rattle.amr_config.specs.Read.Keys.{IsBelow, AreInOrder, HasOrderedKeys, HaveOrderedKeys, AllHaveOrderedKeys}
@@ -14,32 +14,27 @@ below_trans : (a b : Text) (ms : Members) → text_cmp a b ≡ Less → IsBelow 
 below_trans a b no_members less below = tt
 below_trans a b (member k d ms) less below = (nat_list_cmp_total.trans a b k less below.0, below_trans a b ms less below.1)
 
+-- what is so of each of three, is so of the one that an ordering picks
+by_order : (P : Members → Type 0) (o : Ordering) (x y z : Members) → (o ≡ Less → P x) → (o ≡ Equal → P y) → (o ≡ Greater → P z) → P (match_ordering o x y z)
+by_order P Less x y z less equal greater = less refl
+by_order P Equal x y z less equal greater = equal refl
+by_order P Greater x y z less equal greater = greater refl
+
 put_below : (a k : Text) (d : Data) (ms : Members) → text_cmp a k ≡ Less → IsBelow a ms → IsBelow a (put k d ms)
 put_below a k d no_members less below = (less, tt)
-put_below a k d (member l e ms) less below = go (text_cmp k l) (put_below a k d ms less below.1)
-  where
-    go : (o : Ordering) → IsBelow a (put k d ms) → IsBelow a (match_ordering o (member k d (member l e ms)) (member l d ms) (member l e (put k d ms)))
-    go Less rest = (less, below)
-    go Equal rest = below
-    go Greater rest = (below.0, rest)
+put_below a k d (member l e ms) less below =
+    by_order (IsBelow a) (text_cmp k l) _ _ _ (λ is. (less, below)) (λ is. below) (λ is. (below.0, put_below a k d ms less below.1))
 
 put_in_order : (k : Text) (d : Data) (ms : Members) → AreInOrder ms → AreInOrder (put k d ms)
 put_in_order k d no_members order = (tt, tt)
-put_in_order k d (member l e ms) order = go (text_cmp k l) refl (put_in_order k d ms order.1)
-  where
-    go : (o : Ordering) → text_cmp k l ≡ o → AreInOrder (put k d ms) → AreInOrder (match_ordering o (member k d (member l e ms)) (member l d ms) (member l e (put k d ms)))
-    go Less is rest = ((is, below_trans k l ms is order.0), order)
-    go Equal is rest = order
-    go Greater is rest = (put_below l k d ms (nat_list_cmp_total.antisymm l k ∙ ap ordering_reverse is) order.0, rest)
+put_in_order k d (member l e ms) order =
+    by_order AreInOrder (text_cmp k l) _ _ _ (λ is. ((is, below_trans k l ms is order.0), order)) (λ is. order)
+    (λ is. (put_below l k d ms (nat_list_cmp_total.antisymm l k ∙ ap ordering_reverse is) order.0, put_in_order k d ms order.1))
 
 put_ordered : (k : Text) (d : Data) (ms : Members) → HasOrderedKeys d → AllHaveOrderedKeys ms → AllHaveOrderedKeys (put k d ms)
 put_ordered k d no_members one all = (one, tt)
-put_ordered k d (member l e ms) one all = go (text_cmp k l) (put_ordered k d ms one all.1)
-  where
-    go : (o : Ordering) → AllHaveOrderedKeys (put k d ms) → AllHaveOrderedKeys (match_ordering o (member k d (member l e ms)) (member l d ms) (member l e (put k d ms)))
-    go Less rest = (one, all)
-    go Equal rest = (one, all.1)
-    go Greater rest = (all.0, rest)
+put_ordered k d (member l e ms) one all =
+    by_order AllHaveOrderedKeys (text_cmp k l) _ _ _ (λ is. (one, all)) (λ is. (one, all.1)) (λ is. (all.0, put_ordered k d ms one all.1))
 
 mapped : {A B : Type 0} (f : A → B) (o : Option A) (b : B) → option_map f o ≡ Some b → (a : A) × (o ≡ Some a) × (f a ≡ b)
 mapped f None b e = absurd (none-some b e)
@@ -51,18 +46,16 @@ chained f (Some a) b e = (a, refl, e)
 
 mutual
   value_ordered : (j : json.Json) (d : Data) → of_json j ≡ Some d → HasOrderedKeys d
-  value_ordered json.null d e = rw (← same_Some null d e) tt
-  value_ordered (json.boolean b) d e = rw (← same_Some (boolean b) d e) tt
   value_ordered (json.number s) d e =
       let (n, is, same) = mapped number (number_of s) d e in
       rw (← same) tt
-  value_ordered (json.string s) d e = rw (← same_Some (string s) d e) tt
   value_ordered (json.array js) d e =
       let (ds, is, same) = mapped array (of_items js) d e in
       rw (← same) (items_ordered js ds is)
   value_ordered (json.object ms) d e =
       let (found, is, same) = mapped object (of_members ms no_members) d e in
       rw (← same) (members_ordered ms no_members found is tt tt)
+  value_ordered j d e = rw (← same_Some _ d e) tt
 
   items_ordered : (js : json.Items) (ds : Items) → of_items js ≡ Some ds → HaveOrderedKeys ds
   items_ordered json.no_items ds e = rw (← same_Some no_items ds e) tt

@@ -78,9 +78,6 @@ record Open (routes : List Route) (top : ℕ) : Type 0 where
   within : top < length routes
   under : (last : ℕ) → suc last ≡ length routes → IsAbove routes last top
 
-open_may : (routes : List Route) (top : ℕ) → Open routes top → MayFollow routes (Some top)
-open_may routes top o = record { linked = o.linked; follows = λ last is. (top, refl, o.under last is) }
-
 -- what a list of routes below one adds
 record AddsAll (routes after : List Route) (top : ℕ) : Type 0 where
   grown : (more : List Route) × (after ≡ routes ++ more)
@@ -106,7 +103,7 @@ items_add whole left path top adds i no_items routes after e o =
     rw (← same) (record { grown = ([], sym (append-nil routes)); longer = omega arith; still = o })
 items_add whole left path top adds i (item d ds) routes after e o =
     let a = bind_ok (child_into whole left path top i d routes) _ after e in
-    let one = adds (item_path (under path (codes "routes")) i) (Some top) d routes a.0 a.1 (open_may routes top o) in
+    let one = adds (item_path (under path (codes "routes")) i) (Some top) d routes a.0 a.1 (record { linked = o.linked; follows = λ last is. (top, refl, o.under last is) }) in
     let rest = items_add whole left path top adds (i + 1) ds a.0 after a.2 (open_after routes a.0 top o one) in
     record { grown = grown_twice routes a.0 after one.grown rest.grown; longer = omega (arith, one.longer, rest.longer); still = rest.still }
 
@@ -119,9 +116,6 @@ own_opens routes route after is may =
           let same : last ≡ length routes = omega (arith, e, length_push routes route) in
           rw same (Itself (length routes));
     })
-
-kept_parent : (routes after : List Route) (n : ℕ) → n < length routes → (more : List Route) × (after ≡ routes ++ more) → parent_at after n ≡ parent_at routes n
-kept_parent routes after n lt (more, is) = rw is (parent_further routes more n lt)
 
 route_adds : (whole : Data) (left : ℕ) (path : List ℕ) (parent : Option ℕ) (d : Data) (routes after : List Route) → (add_route whole left path parent d routes).value ≡ Ok after → MayFollow routes parent → Adds routes after parent
 unfolding add_route
@@ -136,7 +130,7 @@ route_adds whole (suc left) path parent d routes after e may =
       grown = grown_twice routes a.0 after (own.0 ∷ [], own.1) rest.grown;
       longer = omega (arith, opened.within, rest.longer);
       linked = rest.still.linked;
-      has = kept_parent a.0 after (length routes) opened.within rest.grown ∙ rw own.1 (parent_last routes own.0 ∙ own.2);
+      has = rw rest.grown.1 (parent_further a.0 rest.grown.0 (length routes) opened.within ∙ rw own.1 (parent_last routes own.0 ∙ own.2));
       under = rest.still.under;
     }
 

@@ -2,6 +2,7 @@
 use Rattle.std.proofs.Common.{◌≡◌, ℕ, zero, suc, ◌<◌, Bool, true, false, true≢false, List, [], ◌∷◌, length, Option, Some, None, Ok, refl, sym, ◌∙◌, arith}
 use Rattle.std.specs.List.{Contains, list_any, slice_get}
 use Rattle.std.specs.Option.{option_map_or, is_none}
+use Rattle.std.proofs.lemmas.Bool.{false_from_ne_true}
 use Rattle.std.proofs.lemmas.List.Folds.{list_any_at}
 use Rattle.std.proofs.lemmas.List.Elements.{Contains-append_right}
 use Rattle.amr_labels.specs.Labels.{Text}
@@ -22,7 +23,7 @@ use Rattle.amr_config.specs.Read.Shape.{IsPreorder, IsConfig, stated_receiver, i
 use Rattle.amr_config.specs.Read.Judging.{refusal_of, is_lost, is_known, are_named_apart, root_is_bad, is_bad_root}
 use Rattle.amr_config.specs.Read.Reading.{unless_refused, reading_of, config_of}
 use Rattle.amr_config.specs.Read.ReadLaws.{RoutesAreInPreorder, ReadConfigsAreWhole}
-use Rattle.amr_config.proofs.Lines.{line_of-root, line_of-child}
+use Rattle.amr_config.proofs.Lines.{line_of-child}
 use Rattle.amr_config.proofs.ReadLemmas.NameSets.{named_apart}
 use Rattle.amr_config.proofs.ReadLemmas.TreeOrder.{IsAbove, Itself, Further, IsTree, walked_tree, parent_within, parents_first}
 use Rattle.std.proofs.lemmas.Option.{same_Some, get_or_from_slice_get, slice_get_past}
@@ -41,25 +42,19 @@ accepted_from stated (Some refusal) config e = cc
 
 pub was_judged : (d : Data) (config : Config) → config_of d ≡ Ok config → WasJudged d config
 unfolding reading_of
-was_judged d config e = go (is_too_deep d) refl
-  where
-    go : (b : Bool) → is_too_deep d ≡ b → WasJudged d config
-    go true deep = absurd (cc)
-    go false shallow =
-        let read : (next (walked_at d) (λ stated. plain (unless_refused stated (refusal_of stated)))).value ≡ Ok config = rw (shallow, config_of) at e in
-        let (stated, walked, rest) = bind_ok (walked_at d) (λ stated. plain (unless_refused stated (refusal_of stated))) config read in
-        let (accepted, is) = accepted_from stated (refusal_of stated) config rest in
-        record { stated = stated; shallow = shallow; walked = walked; accepted = accepted; is = is }
+was_judged d config e =
+    let shallow = false_from_ne_true (is_too_deep d) (λ deep. let refused = rw (deep, config_of) at e in cc) in
+    let read : (next (walked_at d) (λ stated. plain (unless_refused stated (refusal_of stated)))).value ≡ Ok config = rw (shallow, config_of) at e in
+    let (stated, walked, rest) = bind_ok (walked_at d) (λ stated. plain (unless_refused stated (refusal_of stated))) config read in
+    let (accepted, is) = accepted_from stated (refusal_of stated) config rest in
+    record { stated = stated; shallow = shallow; walked = walked; accepted = accepted; is = is }
 
-in_line : (config : Config) → AreParentsFirst config → (n : ℕ) → Contains (line_of config n) n
-in_line config first n = go (parent_of config n) refl
-  where
-    go : (o : Option ℕ) → parent_of config n ≡ o → Contains (line_of config n) n
-    go None e = rw (line_of-root config first n e) (0, omega arith, refl)
-    go (Some parent) e = rw (line_of-child config first n parent e) (0, omega arith, refl)
+in_line : (config : Config) (n : ℕ) → Contains (line_of config n) n
+in_line config zero = (0, omega arith, refl)
+in_line config (suc n) = (0, omega arith, refl)
 
 above_in_line : (config : Config) → AreParentsFirst config → (n above : ℕ) → IsAbove config.routes n above → Contains (line_of config n) above
-above_in_line config first _ _ (Itself n) = in_line config first n
+above_in_line config first _ _ (Itself n) = in_line config n
 above_in_line config first _ _ (Further n parent above e up) =
     rw (line_of-child config first n parent e) (Contains-append_right (n ∷ []) (line_of config parent) above (above_in_line config first parent above up))
 
