@@ -15,7 +15,6 @@ use Rattle.std.proofs.lemmas.Option.{slice_get-map}
 use Rattle.std.proofs.lemmas.Simd.{map-map}
 use Rattle.amr_labels.specs.Labels.{Text, text_cmp, text_cmp-IsAntisymmetric, LabelSet}
 use Rattle.amr_labels.specs.Matcher.Matchers.{Matcher, all_hold, matcher_cmp, matcher_cmp_total, matcher_cmp-IsAntisymmetric}
-use Rattle.amr_config.specs.declared.stated.route.Route.{Route}
 use Rattle.amr_config.specs.declared.stated.rule.InhibitRule.{InhibitRule}
 use Rattle.amr_config.specs.declared.stated.rule_sides.RuleMatch.{RuleMatch}
 use Rattle.amr_config.specs.Stated.Config.{Config}
@@ -25,11 +24,8 @@ use Rattle.amr_config.specs.Groups.{groups_of, routing_to_cache}
 use Rattle.amr_config.specs.Routing.{route_numbers, parent_of, line_within, line_of, matches_route, is_child, is_cut_off, route_is, first_stated, inherited_value, grouped_by, chosen_routes, group_of}
 
 module _ (a b : Config) (same : map routing_part a.routes ≡ map routing_part b.routes) where
-  at_index : {X : Type 0} (f : RoutingPart → X) (d : X) (routes : List Route) (n : ℕ) → option_map_or f (slice_get (map routing_part routes) n) d ≡ option_map_or (λ route. f (routing_part route)) (slice_get routes n) d
-  at_index f d routes n = grind (arith, slice_get-map routing_part routes n)
-
   part : {X : Type 0} (f : RoutingPart → X) (d : X) (n : ℕ) → option_map_or (λ route. f (routing_part route)) (slice_get a.routes n) d ≡ option_map_or (λ route. f (routing_part route)) (slice_get b.routes n) d
-  part f d n = sym (at_index f d a.routes n) ∙ ap (λ parts. option_map_or f (slice_get parts n) d) same ∙ at_index f d b.routes n
+  part f d n = grind (arith, slice_get-map routing_part a.routes n, slice_get-map routing_part b.routes n, ap (λ parts. slice_get parts n) same)
 
   parents : (n : ℕ) → parent_of a n ≡ parent_of b n
   parents n = part (λ p. p.parent) None n

@@ -117,10 +117,6 @@ chosen_more_at standings n b e = grind (arith, range_more n, filter-append)
 pub chosen_more : (standings : List Standing) (n : ℕ) (d : Standing) (b : Bool) → n < length standings → b ≡ is_chosen_standing (get_or standings n d) → chosen_numbers standings (n + 1) ≡ chosen_numbers standings n ++ cond b (n ∷ []) []
 chosen_more standings n d b h e = chosen_more_at standings n b (grind (arith, slice_get-get_or standings n d))
 
-pub standing_found : (config : Config) (labels : LabelSet) (n parent : ℕ) (standings : List Standing) (m : Standing) → parent < n → standings ≡ standings_at config labels n → m ≡ get_or standings parent m → m ≡ standing_of config labels n parent
-unfolding standings_at
-standing_found config labels n parent standings m lt e is = grind (arith, get_or-map-range_with_len)
-
 -- the matchers of a route's settings are its own
 pub matches_is : (config : Config) (labels : LabelSet) (n : ℕ) (b : Bool) (s : Settings) → n < length config.routes → s ≡ settings_of config n → b ≡ all_hold s.matchers labels → b ≡ matches_route config labels n
 unfolding settings_of

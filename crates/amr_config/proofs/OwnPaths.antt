@@ -51,12 +51,11 @@ path_key_cmp_total = then_total (on_total (λ (q : PathKey). q.0) nat_cmp_total)
 options_alike : (p q : Option ℕ) → option_cmp nat_cmp p q ≡ Equal → p ≡ q
 options_alike p q e = grind (arith, nat_cmp-IsAntisymmetric)
 
-ends_alike : (p q : EndKey) → end_key_cmp p q ≡ Equal → p ≡ q
-ends_alike = exact_pairs (option_cmp nat_cmp) (slice_cmp matcher_cmp) options_alike (slice_cmp-IsAntisymmetric matcher_cmp-IsAntisymmetric)
-
 -- keys that compare as equal are the same
 keys_alike : (p q : PathKey) → path_key_cmp p q ≡ Equal → p ≡ q
-keys_alike = exact_pairs nat_cmp end_key_cmp nat_cmp-IsAntisymmetric ends_alike
+keys_alike =
+    exact_pairs nat_cmp end_key_cmp nat_cmp-IsAntisymmetric
+    (exact_pairs (option_cmp nat_cmp) (slice_cmp matcher_cmp) options_alike (slice_cmp-IsAntisymmetric matcher_cmp-IsAntisymmetric))
 
 -- the value under a key
 abbrev pub value_at : List (PathKey × ℕ) → PathKey → Option ℕ
@@ -177,10 +176,7 @@ module _ (config : Config) where
     first_like first e = rw e (first_by (value_at known key) (are key is.sound))
 
     answered_more : (other : PathKey) (found : Option ℕ) → IsSound other → (key ≡ other → ⊥) → IsAnswered limit other found → IsAnswered (limit + 1) other found
-    answered_more other None sound apart none = λ n within same. elim (cases_eq n limit) [
-      | inl e ↦ apart (same_key key other is.sound sound (is.path ∙ ap (path_of config) (sym e) ∙ same))
-      | inr ne ↦ none n (omega (arith, within, ne)) same
-    ]
+    answered_more other None sound apart none = λ n within same. grind (arith, none n, same_key key other is.sound sound, is.path)
     answered_more other (Some first) sound apart found = record { within = omega (arith, found.within); same = found.same; is_first = found.is_first }
 
     module _ (first : ℕ) (like : IsFirstLike config limit first) (more : List (PathKey × ℕ)) (up : (q : PathKey) → value_at more q ≡ cond (is_eq (path_key_cmp key q)) (Some first) (value_at known q)) where
@@ -205,21 +201,13 @@ module _ (config : Config) where
         let again = its (get_or firsts n 0) (omega (arith, there, first.within)) in
         (first.within, two_firsts (get_or firsts (get_or firsts n 0) 0) (get_or firsts n 0) again.is_first first.is_first again.same)
 
-    same_path : (n other : ℕ) → n < limit → other < limit → get_or firsts other 0 ≡ get_or firsts n 0 → path_of config other ≡ path_of config n
-    same_path n other there other_there same = sym (are.each other other_there).same ∙ ap (path_of config) same ∙ (are.each n there).same
-
-    same_first : (n other : ℕ) → n < limit → other < limit → path_of config other ≡ path_of config n → get_or firsts other 0 ≡ get_or firsts n 0
-    same_first n other there other_there same =
-        two_firsts (get_or firsts other 0) (get_or firsts n 0) (are.each other other_there).is_first (are.each n there).is_first
-        ((are.each other other_there).same ∙ same ∙ sym (are.each n there).same)
-
     pub are_own : (own : List Bool) → limit ≡ length config.routes → AreAlone firsts (length firsts) own → AreOwn config own
     are_own own e alone = record {
       each = λ n within.
           let there : n < limit = omega (arith, within, e) in
           let known = alone.each n (omega (arith, there, are.all)) in (
-            λ is other less same. known.0 is other (omega (arith, less, e, are.all)) (same_first n other there (omega (arith, less, e)) same),
-            λ only. known.1 (λ other less same. only other (omega (arith, less, are.all, e)) (same_path n other there (omega (arith, less, are.all)) same)),
+            λ is other less same. known.0 is other (omega (arith, less, e, are.all)) (grind (arith, two_firsts (get_or firsts other 0) (get_or firsts n 0), are.each other, are.each n)),
+            λ only. known.1 (λ other less same. only other (omega (arith, less, are.all, e)) (grind (arith, are.each other, are.each n))),
           );
       all = alone.all ∙ are.all ∙ e;
     }
@@ -232,10 +220,7 @@ module _ (numbers : List ℕ) where
 
   -- one more index leaves it open whether an earlier one is alone, unless the two have the same number
   alone_more : (limit n : ℕ) → (get_or numbers limit 0 ≡ get_or numbers n 0 → limit ≡ n) → IsAloneBelow limit n → IsAloneBelow (limit + 1) n
-  alone_more limit n next only other within same = elim (cases_eq other limit) [
-    | inl e ↦ e ∙ next (ap (λ k. get_or numbers k 0) (sym e) ∙ same)
-    | inr ne ↦ only other (omega (arith, within, ne)) same
-  ]
+  alone_more limit n next only other within same = grind (arith, only other)
 
   still_alone : (limit n : ℕ) (r : Bool) → (IsAloneBelow limit n → get_or numbers limit 0 ≡ get_or numbers n 0 → limit ≡ n) → Decides r (IsAloneBelow limit n) → Decides r (IsAloneBelow (limit + 1) n)
   still_alone limit n r next d = (λ is. alone_more limit n (next (d.0 is)) (d.0 is), λ only. d.1 (λ other within same. only other (omega (arith, within)) same))

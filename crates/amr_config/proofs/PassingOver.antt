@@ -1,8 +1,9 @@
 -- The walk through the routes may pass over those below a route that isn't open.
-use Rattle.std.proofs.Common.{◌≡◌, ℕ, zero, suc, ◌+◌, ◌-◌, ◌<◌, ◌≤◌, Bool, true, false, List, [], ◌∷◌, ◌++◌, length, get_or, take, replicate, Option, Some, None, refl, sym, ◌∙◌, arith, IsSomeAnd, OnOk, Result, Ok, Err, is_ok}
+use Rattle.std.proofs.Common.{◌≡◌, ℕ, zero, suc, ◌+◌, ◌-◌, ◌<◌, ◌≤◌, true, false, List, [], ◌∷◌, ◌++◌, length, get_or, take, replicate, Option, Some, None, inl, inr, refl, sym, ◌∙◌, arith, IsSomeAnd, OnOk, Result, Ok, Err, is_ok}
 use Rattle.std.specs.Option.{option_map_or}
 use Rattle.std.specs.List.{slice_get}
 use Rattle.std.proofs.Math.Bool.{and-false}
+use Rattle.std.proofs.lemmas.Bool.{cases_Bool}
 use Rattle.std.proofs.lemmas.Grind.{common_steps}
 use Rattle.std.proofs.lemmas.Option.{slice_get-get_or}
 use Rattle.std.proofs.lemmas.List.FromFn.{get_or-map-range_with_len}
@@ -25,15 +26,14 @@ without_error (Err e) h = tt
 
 module _ (config : Config) (labels : LabelSet) (first : AreParentsFirst config) where
   -- a route that isn't open changes no standing, whatever keeps it from being open
-  child_step : (n parent : ℕ) → n ≤ length config.routes → parent_of config n ≡ Some parent → is_open config labels n ≡ false → (mt : Bool) → matches_route config labels n ≡ mt → standings_at config labels n ++ shut ∷ [] ≡ standings_at config labels (n + 1)
-  unfolding standing_of
-  child_step n parent le e o false m = unmatched_step config labels first n parent e m
-  child_step n parent le e o true m =
-      shut_step config labels first n parent le e (standing_of config labels n parent) refl (grind (arith, cut_child config labels first n parent, open_child config labels first n parent))
-
   step_under : (n : ℕ) → n ≤ length config.routes → is_open config labels n ≡ false → (above : Option ℕ) → parent_of config n ≡ above → standings_at config labels n ++ shut ∷ [] ≡ standings_at config labels (n + 1)
+  unfolding standing_of
   step_under n le o None e = root_step config labels first n false e (sym o ∙ open_root config labels first n e)
-  step_under n le o (Some parent) e = child_step n parent le e o _ refl
+  step_under n le o (Some parent) e =
+      elim (cases_Bool (matches_route config labels n)) [
+        | inl m ↦ shut_step config labels first n parent le e (standing_of config labels n parent) refl (grind (arith, cut_child config labels first n parent, open_child config labels first n parent))
+        | inr m ↦ unmatched_step config labels first n parent e m
+      ]
 
   -- a route whose parent is at or below one that isn't open, isn't open
   under_shut : (n m : ℕ) → ((q : ℕ) → n ≤ q → q < m → is_open config labels q ≡ false) → (above : Option ℕ) → parent_of config m ≡ above → IsSomeAnd above (λ parent. n ≤ parent) → is_open config labels m ≡ false

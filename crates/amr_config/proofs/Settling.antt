@@ -42,8 +42,7 @@ module _ (config : Config) (first : AreParentsFirst config) (n : ℕ) (route : R
   found_above : (parent : ℕ) → parent < n → slice_get (settled_to config n) parent ≡ Some (settings_of config parent)
   unfolding settled_to
   found_above parent lt =
-      slice_get-get_or (map (settings_of config) (range_with_len 0 n)) parent (settings_of config parent) (omega (arith, lt, length-map-range_with_len (settings_of config) 0 n))
-      ∙ ap (λ x. Some x) (get_or-map-range_with_len (settings_of config) 0 n parent parent (settings_of config parent) lt (omega arith))
+      grind (arith, slice_get-get_or (map (settings_of config) (range_with_len 0 n)) parent (settings_of config parent), length-map-range_with_len, get_or-map-range_with_len)
 
   settings_by : (o : Option ℕ) → parent_of config n ≡ o → settled_under route (option_and_then (slice_get (settled_to config n)) o) ≡ settings_of config n
   settings_by None e = settings_under None e
@@ -53,10 +52,7 @@ pub settled_more : (config : Config) → AreParentsFirst config → (n : ℕ) (r
 unfolding settled_to
 settled_more config first n route above made so_far new lt is sf ab md nw =
     let here : slice_get config.routes n ≡ Some route = slice_get-get_or config.routes n route lt ∙ ap (λ x. Some x) (sym is) in
-    let value : made ≡ settings_of config n =
-    md ∙ ap (settled_under route) (ab ∙ ap (λ ss. option_and_then (slice_get ss) route.parent) sf) ∙ settings_by config first n route here route.parent (sym (own_parent config first n route here)) in
-    nw ∙ ap (λ ss. ss ++ made ∷ []) sf ∙ ap (λ s. map (settings_of config) (range_with_len 0 n) ++ s ∷ []) value
-    ∙ sym (map-range_with_len_more (settings_of config) 0 n n (omega arith))
+    grind (arith, settings_by config first n route here route.parent (sym (own_parent config first n route here)), map-range_with_len_more (settings_of config) 0 n n)
 
 pub settled_all : (config : Config) (n : ℕ) → n ≡ length config.routes → settled_to config n ≡ settings_of_all config
 unfolding settled_to settings_of_all

@@ -53,16 +53,13 @@ found x (y ∷ ys) there = go (matcher_cmp x y) refl (found x ys)
 has_first : (x : Matcher) (xs : List Matcher) → 0 < times x (x ∷ xs)
 has_first x xs = grind (arith, sum_by-cons (one_if_same x) x xs, tied_itself matcher_cmp_total x)
 
-left_over : (z x : Matcher) (xs ys us vs : List Matcher) → ys ≡ us ++ x ∷ vs → times z (x ∷ xs) ≡ times z ys → times z xs ≡ times z (us ++ vs)
-left_over z x xs ys us vs is e =
-    omega (arith, e, ap (times z) is, sum_by-cons (one_if_same z) x xs, sum_by-cons (one_if_same z) x vs, sum_by-append (one_if_same z) us (x ∷ vs), sum_by-append (one_if_same z) us vs)
-
 same_sorted : (xs ys : List Matcher) → ((z : Matcher) → times z xs ≡ times z ys) → sorted_matchers xs ≡ sorted_matchers ys
 same_sorted [] [] h = refl
 same_sorted [] (y ∷ ys) h = absurd (omega (arith, h y, has_first y ys))
 same_sorted (x ∷ xs) ys h =
     let (us, vs, is) = found x ys (omega (arith, h x, has_first x xs)) in
-    let rest = same_sorted xs (us ++ vs) (λ z. left_over z x xs ys us vs is (h z)) in
+    let rest = same_sorted xs (us ++ vs) (λ z.
+    omega (arith, h z, ap (times z) is, sum_by-cons (one_if_same z) x xs, sum_by-cons (one_if_same z) x vs, sum_by-append (one_if_same z) us (x ∷ vs), sum_by-append (one_if_same z) us vs)) in
     grind (arith, inserted us vs x)
 
 -- ---- lists that are in order

@@ -1,5 +1,5 @@
 -- What is read is what the file says, and a refusal of its shape is that of the first fault.
-use Rattle.std.proofs.Common.{◌≡◌, ℕ, false, List, Option, Some, None, Result, Ok, Err, inl, inr, refl, sym, ap, subst, ◌∙◌, append-nil, arith}
+use Rattle.std.proofs.Common.{◌≡◌, ℕ, List, Option, Some, None, Result, Ok, Err, inl, inr, sym, ap, subst, ◌∙◌, append-nil, arith}
 use Rattle.std.proofs.lemmas.Bool.{false_from_ne_true}
 use Rattle.serde_json.specs.Data.{Data}
 use Rattle.amr_labels.specs.Labels.{Text}
@@ -47,11 +47,8 @@ answered d (Err refusal) j (inr bad) =
     let same = same_patterns (walked_at d) (λ stated. unless_refused stated (refusal_of stated)) ∙ j.met in
     by_pattern d refusal (first_fault (findings_of d)) (subst (λ (patterns : List (List ℕ × Text)). IsBadPattern patterns refusal) same bad)
 
-past_depth : (d : Data) → is_too_deep d ≡ false → reading_of d ≡ next (walked_at d) (λ stated. plain (unless_refused stated (refusal_of stated)))
-unfolding reading_of
-past_depth d shallow = rw shallow refl
-
 pub answers_go_by_the_first_fault : AnswersGoByTheFirstFault
+unfolding reading_of
 answers_go_by_the_first_fault d answer none is =
     let shallow = false_from_ne_true (is_too_deep d) (λ deep. none (deep_route_of d deep)) in
-    answered d answer (walked_judged d shallow) (subst (λ (reading : Reading Config). MayGive reading answer) (past_depth d shallow) is)
+    answered d answer (walked_judged d shallow) (rw shallow at is)

@@ -1,10 +1,10 @@
 -- The integrations of receivers that are read go by kind, and then by place.
-use Rattle.std.specs.List.{ends_with, list_all}
+use Rattle.std.specs.List.{list_all}
 use Rattle.std.specs.Ordering.{match_ordering}
 use Rattle.std.proofs.lemmas.Option.{none-some, same_Some}
 use Rattle.serde_json.specs.Find.{get, get_member, as_object}
 use Rattle.amr_config.specs.Read.Members.{member_of, unless_null, optional, optional_member, required_member, items_at}
-use Rattle.std.proofs.Common.{◌≡◌, inl, inr, ◌⊎◌, ◌≢◌, ℕ, ◌+◌, ◌-◌, Bool, true, false, if◌then◌else◌, List, [], ◌∷◌, ◌++◌, length, take, drop, Option, Some, None, Ok, refl, sym, ap, ◌∙◌, arith, codes, unwrap_or, nat_eq, append-nil, take-append-drop, Ordering, Less, Equal, Greater, Contains}
+use Rattle.std.proofs.Common.{◌≡◌, inl, inr, ◌⊎◌, ◌≢◌, ℕ, ◌+◌, ◌-◌, Bool, true, false, if◌then◌else◌, List, [], ◌∷◌, ◌++◌, length, drop, Option, Some, None, Ok, refl, sym, ap, ◌∙◌, arith, codes, unwrap_or, append-nil, take-append-drop, Ordering, Less, Equal, Greater, Contains}
 use Rattle.std.proofs.lemmas.List.Elements.{Contains-append_cases, Contains-append_right}
 use Rattle.std.proofs.lemmas.Cmp.{tied_itself}
 use Rattle.std.proofs.lemmas.Bool.{and_from, and_parts}
@@ -76,16 +76,10 @@ order_with (x ∷ xs) kind entries order placed apart =
 
 -- ---- the keys that name kinds
 
-kind_from : (b : Bool) (key name : Text) → ends_with nat_eq key (codes "_configs") ≡ b → (if b then Some (take (length key - 8) key) else None) ≡ Some name → key ≡ name ++ codes "_configs"
-kind_from true key name ends is =
-    let front = same_Some _ name is in
-    let back : drop (length key - 8) key ≡ codes "_configs" = sym (same_text (codes "_configs") (drop (length key - 8) key) (sym ends)) in
-    sym (take-append-drop (length key - 8) key) ∙ ap (λ l. l ++ drop (length key - 8) key) front ∙ ap (λ l. name ++ l) back
-kind_from false key name ends is = absurd (none-some name is)
-
 key_of_kind : (key name : Text) → kind_key key ≡ Some name → key ≡ name ++ codes "_configs"
 unfolding kind_key
-key_of_kind key name e = kind_from (ends_with nat_eq key (codes "_configs")) key name refl e
+key_of_kind key name e =
+    grind (arith, same_text (codes "_configs") (drop (length key - 8) key), take-append-drop (length key - 8) key)
 
 one_key : (key other name : Text) → kind_key key ≡ Some name → kind_key other ≡ Some name → key ≡ other
 one_key key other name e f = key_of_kind key name e ∙ sym (key_of_kind other name f)
@@ -164,10 +158,6 @@ receiver_in_order path d receiver order e =
 abbrev AreReceiversInOrder : List Receiver → Type 0
 AreReceiversInOrder receivers = list_all (λ (receiver : Receiver). are_in_order receiver.integrations) receivers ≡ true
 
-all_push : (receivers : List Receiver) (receiver : Receiver) → AreReceiversInOrder receivers → are_in_order receiver.integrations ≡ true → AreReceiversInOrder (receivers ++ receiver ∷ [])
-all_push receivers receiver h k =
-    list_all-append (λ (r : Receiver). are_in_order r.integrations) receivers (receiver ∷ []) ∙ and_from _ _ h (and_from _ _ k refl)
-
 list_in_order : (path : List ℕ) (i : ℕ) (ds : Items) (before after : List Receiver) → HaveOrderedKeys ds → (items_in_turn (receiver_into path) i ds before).value ≡ Ok after → AreReceiversInOrder before → AreReceiversInOrder after
 unfolding receiver_into
 list_in_order path i no_items before after order e h = rw (← ok_same before after e) h
@@ -175,7 +165,9 @@ list_in_order path i (item d ds) before after order e h =
     let one = bind_ok (receiver_into path i d before) _ after e in
     let read = bind_ok (receiver_at (item_path path i) d) _ one.0 one.1 in
     let is = ok_same _ one.0 read.2 in
-    list_in_order path (i + 1) ds one.0 after order.1 one.2 (rw (← is) (all_push before read.0 h (receiver_in_order (item_path path i) d read.0 order.0 read.1)))
+    let whole = list_all-append (λ (r : Receiver). are_in_order r.integrations) before (read.0 ∷ [])
+    ∙ and_from _ _ h (and_from _ _ (receiver_in_order (item_path path i) d read.0 order.0 read.1) refl) in
+    list_in_order path (i + 1) ds one.0 after order.1 one.2 (rw (← is) whole)
 
 items_ordered : (path : List ℕ) (d : Data) (ds : Items) → HasOrderedKeys d → (items_at path d).value ≡ Ok ds → HaveOrderedKeys ds
 items_ordered path (array es) ds order e = rw (← ok_same es ds e) order

@@ -1,5 +1,5 @@
 -- Sets of names, and whether names differ.
-use Rattle.std.proofs.Common.{◌≡◌, ℕ, ◌+◌, ◌<◌, true, false, not, List, [], ◌∷◌, length, take, drop, get_or, Some, None, refl, ap, ◌∙◌, zero, suc, arith}
+use Rattle.std.proofs.Common.{◌≡◌, ℕ, ◌+◌, ◌<◌, true, false, not, List, [], ◌∷◌, length, take, drop, get_or, refl, ◌∙◌, zero, suc, arith}
 use Rattle.std.specs.BTreeSet.{BTreeSet, contains, Updates}
 use Rattle.std.specs.Cmp.Lexicographic.{nat_list_cmp_total}
 use Rattle.std.specs.List.{list_any}
@@ -55,18 +55,12 @@ unfolding is_known
 named name [] = refl
 named name (receiver ∷ receivers) = grind (arith, swapped name receiver.name, named name receivers)
 
-missing_is_lost : (receivers : List Receiver) (set : BTreeSet Text) → IsSetOf (names_of receivers) set → (route : Route) → is_missing set route ≡ is_lost receivers route
-unfolding is_lost
-missing_is_lost receivers set is route =
-    elim route.receiver as (λ o. option_map_or (λ name. not (contains text_cmp set name)) o false ≡ option_map_or (λ name. not (is_known receivers name)) o false) [
-      | None ↦ refl
-      | Some name ↦ ap not (is name ∙ named name receivers)
-    ]
-
 -- a route names a missing receiver exactly if it names one that doesn't exist
 pub any_missing : (receivers : List Receiver) (set : BTreeSet Text) → IsSetOf (names_of receivers) set → (routes : List Route)
     → list_any (is_missing set) routes ≡ list_any (is_lost receivers) routes
-any_missing receivers set is routes = λ i. list_any (λ route. missing_is_lost receivers set is route i) routes
+unfolding is_lost
+any_missing receivers set is routes =
+    λ i. list_any (λ route. option_map_or (λ name. not ((is name ∙ named name receivers) i)) route.receiver false) routes
 
 -- ---- receivers whose names differ
 

@@ -70,10 +70,6 @@ fails_past_object e path d rest some h = rw (object_there path d rest some) h
 pub past_object : {B : Type 0} (e : ConfigError) (path : List ℕ) (d : Data) (rest : Reading B) → is_some (as_object d) ≡ true → Stops e (MayGive rest) → Stops e (MayGive (next (members_at path d) (λ (whole : Members). rest)))
 past_object e path d rest some h = rw (object_there path d rest some) h
 
--- what is read past it
-pub read_past_object : {B : Type 0} (path : List ℕ) (d : Data) (rest : Reading B) → is_some (as_object d) ≡ true → (next (members_at path d) (λ (whole : Members). rest)).value ≡ rest.value
-read_past_object path d rest some = ap (λ (reading : Reading _). reading.value) (object_there path d rest some)
-
 -- a list that is there
 pub reads_stated : {X : Type 0} (result : Result (List X) ConfigError) (part : Reading (List X)) (default : List X) → Reads (λ xs. xs) result part → Reads (λ xs. xs) result (next (next part (λ xs. give (Some xs))) (λ found. give (unwrap_or found default)))
 reads_stated (Ok xs) part default h =

@@ -36,11 +36,8 @@ told : (d : Data) → is_too_deep d ≡ true → config_of d ≡ Err (Other TooD
 unfolding reading_of
 told d deep = rw (deep, config_of)
 
-only_deep : (d : Data) → config_of d ≡ Err (Other TooDeep) → is_too_deep d ≡ true
-only_deep d refused = grind (arith, shallow_config d)
-
 pub deep_is_refused : DeepIsRefused
-deep_is_refused d = (λ refused. deep_route_of d (only_deep d refused), λ has. told d (too_deep_by d has))
+deep_is_refused d = (λ refused. deep_route_of d (grind (arith, shallow_config d)), λ has. told d (too_deep_by d has))
 
 -- ---- answers if a pattern may be refused
 

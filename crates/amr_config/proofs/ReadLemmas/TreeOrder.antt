@@ -84,14 +84,6 @@ record AddsAll (routes after : List Route) (top : ℕ) : Type 0 where
   longer : length routes ≤ length after
   still : Open after top
 
-open_after : (routes after : List Route) (top : ℕ) → Open routes top → Adds routes after (Some top) → Open after top
-open_after routes after top o adds =
-    record {
-      linked = adds.linked;
-      within = omega (arith, o.within, adds.longer);
-      under = λ last is. above_above after last (length routes) top (adds.under last is) adds.has;
-    }
-
 grown_twice : (a b c : List Route) → (more : List Route) × (b ≡ a ++ more) → (more : List Route) × (c ≡ b ++ more) → (more : List Route) × (c ≡ a ++ more)
 grown_twice a b c (m, e) (n, f) = (m ++ n, f ∙ ap (λ l. l ++ n) e ∙ append_assoc a m n)
 
@@ -104,7 +96,8 @@ items_add whole left path top adds i no_items routes after e o =
 items_add whole left path top adds i (item d ds) routes after e o =
     let a = bind_ok (child_into whole left path top i d routes) _ after e in
     let one = adds (item_path (under path (codes "routes")) i) (Some top) d routes a.0 a.1 (record { linked = o.linked; follows = λ last is. (top, refl, o.under last is) }) in
-    let rest = items_add whole left path top adds (i + 1) ds a.0 after a.2 (open_after routes a.0 top o one) in
+    let opened : Open a.0 top = record { linked = one.linked; within = omega (arith, o.within, one.longer); under = λ last is. above_above a.0 last (length routes) top (one.under last is) one.has } in
+    let rest = items_add whole left path top adds (i + 1) ds a.0 after a.2 opened in
     record { grown = grown_twice routes a.0 after one.grown rest.grown; longer = omega (arith, one.longer, rest.longer); still = rest.still }
 
 own_opens : (routes : List Route) (route : Route) (after : List Route) → after ≡ routes ++ route ∷ [] → MayFollow routes route.parent → Open after (length routes)
@@ -134,12 +127,11 @@ route_adds whole (suc left) path parent d routes after e may =
       under = rest.still.under;
     }
 
-none_yet : MayFollow [] None
-none_yet = record { linked = λ n lt. absurd (omega (arith, lt)); follows = λ last e. absurd (omega (arith, e)) }
-
 found_adds : (whole : Data) (found : Option Data) (routes : List Route) → (tree_from whole found).value ≡ Ok routes → Adds [] routes None
 found_adds whole None routes e = cc
-found_adds whole (Some d) routes e = route_adds whole 32 (codes "route") None d [] routes e none_yet
+found_adds whole (Some d) routes e =
+    route_adds whole 32 (codes "route") None d [] routes e
+    (record { linked = λ n lt. absurd (omega (arith, lt)); follows = λ last end. absurd (omega (arith, end)) })
 
 -- the routes of a whole configuration
 pub record IsTree (routes : List Route) : Type 0 where

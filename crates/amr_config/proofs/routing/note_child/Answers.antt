@@ -1,7 +1,7 @@
-use Rattle.std.proofs.Common.{◌≡◌, ◌+◌, ◌≤◌, false, true, length, inl, inr, sym, ap, ◌∙◌, arith}
+use Rattle.std.proofs.Common.{◌≡◌, ◌+◌, ◌≤◌, false, true, length, get_or, inl, inr, sym, ap, ◌∙◌, arith}
 use Rattle.std.proofs.lemmas.Result.{on_ok_weaker}
 use Rattle.amr_config.specs.Standings.{is_open, standings_at}
-use Rattle.amr_config.proofs.Chosen.{shut_open, standing_found, matches_is}
+use Rattle.amr_config.proofs.Chosen.{shut_open, found_standing, matches_is}
 use Rattle.amr_config.proofs.PassingOver.{unmatched_shut}
 use Rattle.amr_config.proofs.routing.note_child.Goals as goal
 use Rattle.amr_config.proofs.routing.note_child.Goals.{then-not-above-via-then-not-above, then-not-above-via-else-not-above+then-above, then-not-above-via-else-not-above+else-above+in_ok-matches_all+then-not-branch}
@@ -15,7 +15,8 @@ returns-then-not-above c =
     let so_far : c.args.standings.now.items ≡ standings_at config labels n = c.requires.so_far ∙ ap (standings_at config labels) (sym c.len.ensures) in
     let child = rw (← c.len.ensures) at c.requires.child in
     let parents = c.route-settings.ensures.parents in
-    let above = standing_found config labels n c.args.parent c.args.standings.now.items c.index-above.result.now (parents n c.args.parent child) so_far c.index-above.ensures in
+    let above =
+    c.index-above.ensures ∙ ap (λ standings. get_or standings c.args.parent c.index-above.result.now) so_far ∙ found_standing config labels n c.args.parent c.index-above.result.now (parents n c.args.parent child) in
     let shut : is_open config labels n ≡ false = elim c.then-not-above.branch [
       | then-not-above-via-then-not-above w ↦ shut_open config labels parents n c.args.parent le child c.index-above.result.now above (inl w.if-not-above.true)
       | then-not-above-via-else-not-above+then-above w ↦ shut_open config labels parents n c.args.parent le child c.index-above.result.now above (inr w.if-above.true)

@@ -4,12 +4,4 @@ use Rattle.amr_config.proofs.config.Config.from_stated.Goals as goal
 
 pub invariant_of-result : goal.invariant_of-result
 invariant_of-result c =
-    subst AreSettled (sym c.in_ok-new.ensures.ok) (record {
-      settings = search rules;
-      parents = search rules;
-      receivers = search rules;
-      own_paths = search rules;
-      subtree_ends = search rules;
-      intervals = search rules;
-      rule_names = search rules;
-    })
+    subst AreSettled (sym c.in_ok-new.ensures.ok) (search rules)

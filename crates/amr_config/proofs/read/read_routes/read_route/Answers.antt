@@ -1,7 +1,7 @@
-use Rattle.std.proofs.Common.{refl, sym, ◌∙◌}
-use Rattle.amr_config.specs.Read.Readings.{next}
+use Rattle.std.proofs.Common.{refl, ap, sym, ◌∙◌}
+use Rattle.amr_config.specs.Read.Readings.{Reading, next}
 use Rattle.amr_config.specs.Read.ReadRoutes.{route_at}
-use Rattle.amr_config.proofs.ReadLemmas.Readings.{read_past_object, stops_first, stops_later, stops_past, stops_plain, past_object, stopped}
+use Rattle.amr_config.proofs.ReadLemmas.Readings.{object_there, stops_first, stops_later, stops_past, stops_plain, past_object, stopped}
 use Rattle.amr_config.proofs.read.read_routes.read_route.Goals as goal
 
 pub returns-in_err-matchers : goal.returns-in_err-matchers
@@ -31,5 +31,5 @@ returns-in_err-repeat_interval c =
 pub returns : goal.returns
 unfolding route_at next
 returns c =
-    read_past_object _ _ _ (sym c.is_object.ensures ∙ c.if-not-is_object.false)
+    ap (λ (reading : Reading _). reading.value) (object_there _ _ _ (sym c.is_object.ensures ∙ c.if-not-is_object.false))
     ∙ rw (c.in_ok-active.ensures, c.in_ok-continues.ensures, c.in_ok-group_by.ensures, c.in_ok-group_interval.ensures, c.in_ok-group_wait.ensures, c.in_ok-matchers.ensures, c.in_ok-mute.ensures, c.in_ok-receiver.ensures, c.in_ok-repeat_interval.ensures, c.unwrap_or.ensures, c.in_ok-grouping.ensures, c.unwrap_or-2.ensures, c.new.ensures, c.unwrap_or-3.ensures, c.new-2.ensures) refl
