@@ -71,14 +71,12 @@ module _ (config : Config) (labels : LabelSet) (first : AreParentsFirst config) 
   pub shut_open : (n parent : ℕ) → n ≤ length config.routes → parent_of config n ≡ Some parent → (m : Standing) → m ≡ standing_of config labels n parent → (m.is_open ≡ false) ⊎ (m.is_closed ≡ true) → is_open config labels n ≡ false
   shut_open n parent le e m same shut = grind (arith, opens n parent le e m same)
 
-  shut_stays : (n parent q : ℕ) → parent_of config n ≡ Some parent → (m : Standing) → m ≡ standing_of config labels n parent → (m.is_open ≡ false) ⊎ (m.is_closed ≡ true) → standing_of config labels (n + 1) q ≡ standing_of config labels n q
-  unfolding standing_of
-  shut_stays n parent q e m same shut =
-      grind (arith, any_more (takes_from config labels q) n, any_more (closes config labels q) n, any_wider (closes config labels q) (takes_from config labels q) 0 n (λ k h. grind arith))
-
   -- a route that isn't open changes no standing
   pub shut_step : (n parent : ℕ) → n ≤ length config.routes → parent_of config n ≡ Some parent → (m : Standing) → m ≡ standing_of config labels n parent → (m.is_open ≡ false) ⊎ (m.is_closed ≡ true) → standings_at config labels n ++ standing false false false ∷ [] ≡ standings_at config labels (n + 1)
-  shut_step n parent le e m same shut = all_stay n false (shut_open n parent le e m same shut) (λ q. shut_stays n parent q e m same shut)
+  unfolding standing_of
+  shut_step n parent le e m same shut =
+      all_stay n false (shut_open n parent le e m same shut) (λ q.
+      grind (arith, any_more (takes_from config labels q) n, any_more (closes config labels q) n, any_wider (closes config labels q) (takes_from config labels q) 0 n (λ k h. grind arith)))
 
   -- a route that doesn't match changes no standing
   pub unmatched_step : (n parent : ℕ) → parent_of config n ≡ Some parent → matches_route config labels n ≡ false → standings_at config labels n ++ standing false false false ∷ [] ≡ standings_at config labels (n + 1)
@@ -97,18 +95,14 @@ module _ (config : Config) (labels : LabelSet) (first : AreParentsFirst config) 
       (same_lists _ _ (grind (arith, common_steps, length-map-range_with_len)) (λ q d h. grind (arith, common_steps, taken_at n parent q e o cl mt d, get_or-map-range_with_len, length-map-range_with_len)))
 
 module _ (config : Config) (labels : LabelSet) where
-  chosen_standing : (n : ℕ) → is_chosen_standing (standing_of config labels (length config.routes) n) ≡ is_chosen config labels n
-  unfolding standing_of is_open
-  chosen_standing n = grind arith
-
   -- the routes with chosen standings at the end are those that the rule chooses
   pub chosen_from_standings : (standings : List Standing) → standings ≡ standings_at config labels (length config.routes) → chosen_numbers standings (length standings) ≡ chosen_routes config labels
-  unfolding standings_at chosen_routes
+  unfolding standings_at chosen_routes standing_of is_open
   chosen_from_standings standings e =
       let n : ℕ = length config.routes in
       let len : length standings ≡ n = ap length e ∙ length-map-range_with_len (standing_of config labels n) 0 n in
       rw len (filter_same _ (is_chosen config labels) 0 n (λ k l h.
-      grind (arith, slice_get-get_or standings k (standing_of config labels n k), get_or-map-range_with_len, chosen_standing k)))
+      grind (arith, slice_get-get_or standings k (standing_of config labels n k), get_or-map-range_with_len)))
 
 pub chosen_more_at : (standings : List Standing) (n : ℕ) (b : Bool) → option_map_or is_chosen_standing (slice_get standings n) false ≡ b → chosen_numbers standings (n + 1) ≡ chosen_numbers standings n ++ cond b (n ∷ []) []
 chosen_more_at standings n b e = grind (arith, range_more n, filter-append)

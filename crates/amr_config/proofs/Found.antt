@@ -1,5 +1,5 @@
 -- What is kept for each route, found at the route's number.
-use Rattle.std.proofs.Common.{◌≡◌, ℕ, ◌<◌, ◌≤◌, List, [], length, get_or, Option, Some, None, MatchOption, Bor, sym, ap, ◌∙◌, arith, unwrap_or, slice_get}
+use Rattle.std.proofs.Common.{◌≡◌, ℕ, ◌<◌, ◌≤◌, List, [], length, Option, Some, None, MatchOption, Bor, sym, ap, ◌∙◌, arith, unwrap_or, slice_get}
 use Rattle.std.specs.Slice.{IsItemAt}
 use Rattle.std.proofs.lemmas.List.{length-map}
 use Rattle.std.proofs.lemmas.Option.{slice_get-get_or, slice_get-map}
@@ -13,12 +13,6 @@ use Rattle.amr_config.specs.Settled.{settings_of, settings_of_all}
 use Rattle.amr_config.proofs.Inherited.{get_or-settled, inherited_past}
 use Rattle.amr_config.proofs.Receivers.{as_many}
 
-module _ (config : Config) (settings : List Settings) (are_settled : settings ≡ settings_of_all config) where
-  its_settings : (n : ℕ) → n < length config.routes → slice_get settings n ≡ Some (settings_of config n)
-  its_settings n there =
-      slice_get-get_or settings n (settings_of config n) (omega (arith, there, as_many config settings are_settled))
-      ∙ ap (λ s. Some s) (ap (λ ss. get_or ss n (settings_of config n)) are_settled ∙ get_or-settled config n (settings_of config n) there)
-
 module _ (config : Config) (settings : List Settings) where
   pub receiver_found : (receivers : List Receiver) (indexes : List (Option ℕ)) (n : ℕ) (r : Option (Bor (Option ℕ))) → settings ≡ settings_of_all config → AreReceivers receivers settings indexes → IsItemAt indexes n r
       → MatchOption r (length config.routes ≤ n) (λ found. receiver_at receivers found.now ≡ receiver_named receivers (receiver_name_of config n))
@@ -29,7 +23,7 @@ module _ (config : Config) (settings : List Settings) where
       let f = λ (s : Settings). receiver_named receivers s.receiver in
       let there : n < length config.routes = omega (arith, as_many config settings e, ap length are, length-map indexes (receiver_at receivers), length-map settings f, h.3.0) in
       let index : slice_get indexes n ≡ Some x.now = slice_get-get_or indexes n None h.3.0 ∙ ap (λ p. Some p) (sym (h.4 (omega (arith, h.3.0)) None)) in
-      grind (arith, slice_get-map (receiver_at receivers) indexes n, ap (λ rs. slice_get rs n) are, slice_get-map f settings n, its_settings config settings e n there)
+      grind (arith, slice_get-map (receiver_at receivers) indexes n, ap (λ rs. slice_get rs n) are, slice_get-map f settings n, slice_get-get_or settings n (settings_of config n), get_or-settled config n (settings_of config n), as_many config settings e)
 
 pub name_past : (config : Config) (n : ℕ) → length config.routes ≤ n → receiver_name_of config n ≡ []
 name_past config n past = ap (λ o. unwrap_or o []) (inherited_past (λ (route : Route). route.receiver) config n past)

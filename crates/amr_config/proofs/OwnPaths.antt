@@ -1,5 +1,5 @@
 -- The first route with each path, and which routes no other is like.
-use Rattle.std.proofs.Common.{inl, inr, ◌≡◌, ℕ, zero, suc, ◌+◌, ◌-◌, ◌<◌, ◌≤◌, Bool, true, false, true≢false, cond, List, [], ◌∷◌, ◌++◌, length, get_or, set, map, Option, Some, None, MatchOption, option_and_then, unwrap_or, refl, sym, ap, subst, ◌∙◌, arith, IfSome, Decides, slice_get, Ordering, Equal}
+use Rattle.std.proofs.Common.{inl, inr, ◌≡◌, ℕ, zero, suc, ◌+◌, ◌-◌, ◌<◌, ◌≤◌, Bool, true, false, true≢false, cond, List, [], ◌∷◌, ◌++◌, length, get_or, set, Option, Some, None, MatchOption, option_and_then, unwrap_or, refl, sym, ap, subst, ◌∙◌, arith, IfSome, Decides, slice_get, Ordering, Equal}
 use Rattle.std.specs.BTreeMap as tree
 use Rattle.std.specs.Map.{lookup}
 use Rattle.std.specs.Cmp.{IsTotalOrder, nat_cmp_total}
@@ -7,7 +7,7 @@ use Rattle.std.specs.Cmp.Lexicographic.{slice_cmp, lists_total, options_total}
 use Rattle.std.specs.FinMap.{nat_cmp-IsAntisymmetric, slice_cmp-IsAntisymmetric}
 use Rattle.std.specs.Option.{option_map_or, option_cmp}
 use Rattle.std.specs.Ordering.{is_eq, nat_cmp, ordering_then}
-use Rattle.std.proofs.lemmas.Bool.{cases_eq}
+use Rattle.std.proofs.lemmas.Bool.{cases_Bool, cases_eq}
 use Rattle.std.proofs.lemmas.Cmp.{tied_itself, on_total, then_total}
 use Rattle.std.proofs.lemmas.List.{length-map, length-reverse, length-set, length_push, get_or_append_left, get_or_push, get_or-set_same, get_or-set_other, same_from_push}
 use Rattle.std.proofs.lemmas.Map.Views.{tells_apart}
@@ -17,7 +17,7 @@ use Rattle.amr_labels.specs.Matcher.Matchers.{Matcher, matcher_cmp, matcher_cmp_
 use Rattle.amr_config.specs.declared.stated.route.Route.{Route}
 use Rattle.amr_config.specs.Stated.Config.{Config}
 use Rattle.amr_config.specs.Paths.{Path, path_hash, IsFirst, IsFirstLike, AreFirsts, AreOwn, AreFirstIndexes, IsAlone, AreAlone}
-use Rattle.amr_config.specs.Routing.{parent_of, line_of, path_of, sorted_matchers}
+use Rattle.amr_config.specs.Routing.{parent_of, path_of, sorted_matchers}
 use Rattle.amr_config.specs.declared.settings.Settings.{Settings}
 use Rattle.amr_config.specs.Settled.{settings_of, settings_of_all, AreParentsFirst}
 use Rattle.amr_config.proofs.Inherited.{get_or-settled}
@@ -42,20 +42,16 @@ end_key_cmp a b = ordering_then (option_cmp nat_cmp a.0 b.0) (slice_cmp matcher_
 abbrev pub path_key_cmp : PathKey → PathKey → Ordering
 path_key_cmp a b = ordering_then (nat_cmp a.0 b.0) (end_key_cmp a.1 b.1)
 
-end_key_cmp_total : IsTotalOrder end_key_cmp
-end_key_cmp_total = then_total (on_total (λ (q : EndKey). q.0) (options_total nat_cmp_total)) (on_total (λ (q : EndKey). q.1) (lists_total matcher_cmp_total))
-
 path_key_cmp_total : IsTotalOrder path_key_cmp
-path_key_cmp_total = then_total (on_total (λ (q : PathKey). q.0) nat_cmp_total) (on_total (λ (q : PathKey). q.1) end_key_cmp_total)
-
-options_alike : (p q : Option ℕ) → option_cmp nat_cmp p q ≡ Equal → p ≡ q
-options_alike p q e = grind (arith, nat_cmp-IsAntisymmetric)
+path_key_cmp_total =
+    then_total (on_total (λ (q : PathKey). q.0) nat_cmp_total) (on_total (λ (q : PathKey). q.1)
+    (then_total (on_total (λ (q : EndKey). q.0) (options_total nat_cmp_total)) (on_total (λ (q : EndKey). q.1) (lists_total matcher_cmp_total))))
 
 -- keys that compare as equal are the same
 keys_alike : (p q : PathKey) → path_key_cmp p q ≡ Equal → p ≡ q
 keys_alike =
     exact_pairs nat_cmp end_key_cmp nat_cmp-IsAntisymmetric
-    (exact_pairs (option_cmp nat_cmp) (slice_cmp matcher_cmp) options_alike (slice_cmp-IsAntisymmetric matcher_cmp-IsAntisymmetric))
+    (exact_pairs (option_cmp nat_cmp) (slice_cmp matcher_cmp) (λ p q e. grind (arith, nat_cmp-IsAntisymmetric)) (slice_cmp-IsAntisymmetric matcher_cmp-IsAntisymmetric))
 
 -- the value under a key
 abbrev pub value_at : List (PathKey × ℕ) → PathKey → Option ℕ
@@ -66,10 +62,7 @@ value_at entries key = lookup (tree.is_at (path_key_cmp key)) entries
 path_not_empty : (config : Config) (n : ℕ) → path_of config n ≡ [] → ⊥
 unfolding path_of
 path_not_empty config zero e = absurd (cc)
-path_not_empty config (suc n) e =
-    let line = line_of config (suc n) in
-    let matchers : ℕ → List Matcher = λ m. option_map_or (λ (route : Route). sorted_matchers route.matchers) (slice_get config.routes m) [] in
-    omega (arith, ap length e, length-reverse (map matchers line), length-map line matchers)
+path_not_empty config (suc n) e = omega (arith, simp (length-reverse, length-map) at (ap length e))
 
 pub path_settled : (config : Config) (settings : List Settings) (n : ℕ) (its : Settings) → settings ≡ settings_of_all config → its ≡ get_or settings n its → n < length config.routes → its.path ≡ path_of config n
 unfolding settings_of
@@ -181,13 +174,13 @@ module _ (config : Config) where
 
     module _ (first : ℕ) (like : IsFirstLike config limit first) (more : List (PathKey × ℕ)) (up : (q : PathKey) → value_at more q ≡ cond (is_eq (path_key_cmp key q)) (Some first) (value_at known q)) where
       pub known_more : AreKnown (limit + 1) more
-      known_more other sound = go (is_eq (path_key_cmp key other)) refl (up other)
-        where
-          go : (b : Bool) → is_eq (path_key_cmp key other) ≡ b → value_at more other ≡ cond b (Some first) (value_at known other) → IsAnswered (limit + 1) other (value_at more other)
-          go true tie now =
-              rw now (record { within = omega (arith, like.within); same = like.same ∙ sym is.path ∙ ap path_of_key (tells_apart keys_alike key other tie); is_first = like.is_first })
-          go false tie now = rw now (answered_more other (value_at known other) sound
-              (λ same. true≢false (sym (ap is_eq (ap (path_key_cmp key) (sym same) ∙ tied_itself path_key_cmp_total key)) ∙ tie)) (are other sound))
+      known_more other sound =
+          elim (cases_Bool (is_eq (path_key_cmp key other))) [
+            | inl tie ↦
+                rw (up other, tie) (record { within = omega (arith, like.within); same = like.same ∙ sym is.path ∙ ap path_of_key (tells_apart keys_alike key other tie); is_first = like.is_first })
+            | inr not_tied ↦ rw (up other, not_tied) (answered_more other (value_at known other) sound
+                (λ same. true≢false (sym (ap is_eq (ap (path_key_cmp key) (sym same) ∙ tied_itself path_key_cmp_total key)) ∙ not_tied)) (are other sound))
+          ]
 
   -- ---- the first routes tell which paths are of one route alone
 

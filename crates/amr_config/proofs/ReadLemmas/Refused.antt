@@ -1,5 +1,5 @@
 -- A configuration is refused as too deep exactly if one of its routes is too deep.
-use Rattle.std.proofs.Common.{◌≡◌, ◌≢◌, true, false, List, Some, Result, Ok, Err, subst, inl, inr, arith}
+use Rattle.std.proofs.Common.{◌≡◌, ◌≢◌, false, List, Some, Result, Ok, Err, subst, inl, inr, arith}
 use Rattle.serde_json.specs.Data.{Data}
 use Rattle.amr_config.specs.declared.read.error.Refusal.{Refusal}
 use Rattle.amr_config.specs.declared.read.error.Refusal.TheVariants.{Other}
@@ -32,12 +32,9 @@ shallow_config d shallow e =
     let value : value_after (walked_at d).value (λ stated. plain (unless_refused stated (refusal_of stated))) ≡ Err (Other TooDeep) = rw (shallow, config_of) at e in
     not_deep (walked_at d).value (findings_of d) (StatesWhole d) (walked_judged d shallow).tells value
 
-told : (d : Data) → is_too_deep d ≡ true → config_of d ≡ Err (Other TooDeep)
-unfolding reading_of
-told d deep = rw (deep, config_of)
-
 pub deep_is_refused : DeepIsRefused
-deep_is_refused d = (λ refused. deep_route_of d (grind (arith, shallow_config d)), λ has. told d (too_deep_by d has))
+unfolding reading_of
+deep_is_refused d = (λ refused. deep_route_of d (grind (arith, shallow_config d)), λ has. rw (too_deep_by d has, config_of))
 
 -- ---- answers if a pattern may be refused
 
@@ -45,14 +42,11 @@ only_answer : (reading : Reading Config) (answer : Result Config Refusal) → re
 only_answer reading (Ok config) is h = grind arith
 only_answer reading (Err refusal) is h = grind arith
 
-nothing_else : (d : Data) → is_too_deep d ≡ true → reading_of d ≡ plain (Err (Other TooDeep))
-unfolding reading_of
-nothing_else d deep = rw deep
-
 answered_deep : (reading : Reading Config) → MayGive reading (Err (Other TooDeep)) → reading.value ≡ Err (Other TooDeep)
 answered_deep reading (inl h) = h
 answered_deep reading (inr (path, text, met, may, faulty)) = absurd (cc)
 
 pub deep_is_answered : DeepIsAnswered
+unfolding reading_of
 deep_is_answered d answer is =
-    (λ refused. (deep_is_refused d).0 (answered_deep (reading_of d) (subst (λ (a : Result Config Refusal). MayGive (reading_of d) a) refused is)), λ has. only_answer (reading_of d) answer (nothing_else d (too_deep_by d has)) is)
+    (λ refused. (deep_is_refused d).0 (answered_deep (reading_of d) (subst (λ (a : Result Config Refusal). MayGive (reading_of d) a) refused is)), λ has. only_answer (reading_of d) answer (rw (too_deep_by d has)) is)

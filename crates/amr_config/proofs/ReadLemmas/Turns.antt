@@ -4,7 +4,7 @@ use Rattle.std.proofs.lemmas.List.{at_drop_more}
 use Rattle.serde_json.specs.Data.{Data}
 use Rattle.serde_json.specs.View.{view, items_view, members_view}
 use Rattle.serde_json.specs.declared.value.Value.{Value}
-use Rattle.amr_config.specs.Read.Readings.{Reading, give, next, items_in_turn, members_in_turn, MayGive}
+use Rattle.amr_config.specs.Read.Readings.{Reading, next, items_in_turn, members_in_turn, MayGive}
 use Rattle.amr_config.specs.declared.read.error.ConfigError.{ConfigError}
 use Rattle.amr_config.specs.Read.Answers.{Stops}
 use Rattle.amr_config.proofs.ReadLemmas.Readings.{stops_first, stops_later, read_on}
@@ -24,10 +24,6 @@ ends_past part rest whole a read ends =
       reads = λ b h. ends.reads b (read_on part rest a read ∙ h);
       stops = λ e h. ends.stops e (stops_later e part rest a read h);
     }
-
--- past its first part, which has no patterns
-pub ends_after : {A B : Type 0} (part : Reading A) (rest : A → Reading B) (whole : Reading B) (a : A) → part ≡ give a → Ends (next part rest) whole → Ends (rest a) whole
-ends_after part rest whole a read ends = ends_past part rest whole a (ap (λ (part : Reading _). part.value) read) ends
 
 one_item : {A : Type 0} (f : ℕ → Data → A → Reading A) (vs : List Value) (i : ℕ) (v : Value) (a : A) → i < length vs → v ≡ get_or vs i v → items_in_turn f i (items_view (drop i vs)) a ≡ next (f i (view v) a) (items_in_turn f (i + 1) (items_view (drop (i + 1) vs)))
 one_item f vs i v a lt is =

@@ -10,12 +10,11 @@ use Rattle.amr_config.specs.declared.stated.route.Route.{Route}
 use Rattle.amr_config.specs.Read.Keys.{HasOrderedKeys}
 use Rattle.amr_config.proofs.ReadLemmas.Integrations.{walked_in_order}
 use Rattle.serde_json.specs.Data.{Data}
-use Rattle.amr_config.specs.declared.read.error.Refusal.{Refusal}
 use Rattle.amr_config.specs.declared.stated.stated.Stated.{Stated}
 use Rattle.amr_config.specs.Read.Readings.{plain, next}
 use Rattle.amr_config.specs.Read.RouteParts.{is_too_deep}
 use Rattle.amr_config.specs.Read.Walking.{walked_at}
-use Rattle.amr_config.proofs.ReadLemmas.WalkedParts.{ok_same, bind_ok}
+use Rattle.amr_config.proofs.ReadLemmas.WalkedParts.{bind_ok}
 use Rattle.amr_config.specs.Stated.Config.{Config}
 use Rattle.amr_config.specs.Routing.{parent_of, line_of}
 use Rattle.amr_config.specs.Settled.{stated_config, AreParentsFirst}
@@ -36,18 +35,13 @@ pub record WasJudged (d : Data) (config : Config) : Type 0 where
   pub accepted : refusal_of stated ≡ None
   pub is : config ≡ stated_config stated
 
-accepted_from : (stated : Stated) (o : Option Refusal) (config : Config) → unless_refused stated o ≡ Ok config → (o ≡ None) × (config ≡ stated_config stated)
-accepted_from stated None config e = (refl, sym (ok_same _ config e))
-accepted_from stated (Some refusal) config e = cc
-
 pub was_judged : (d : Data) (config : Config) → config_of d ≡ Ok config → WasJudged d config
 unfolding reading_of
 was_judged d config e =
     let shallow = false_from_ne_true (is_too_deep d) (λ deep. let refused = rw (deep, config_of) at e in cc) in
     let read : (next (walked_at d) (λ stated. plain (unless_refused stated (refusal_of stated)))).value ≡ Ok config = rw (shallow, config_of) at e in
     let (stated, walked, rest) = bind_ok (walked_at d) (λ stated. plain (unless_refused stated (refusal_of stated))) config read in
-    let (accepted, is) = accepted_from stated (refusal_of stated) config rest in
-    record { stated = stated; shallow = shallow; walked = walked; accepted = accepted; is = is }
+    record { stated = stated; shallow = shallow; walked = walked; accepted = grind arith; is = grind arith }
 
 in_line : (config : Config) (n : ℕ) → Contains (line_of config n) n
 in_line config zero = (0, omega arith, refl)
