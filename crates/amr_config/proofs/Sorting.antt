@@ -1,5 +1,5 @@
 -- Lists of matchers with the same elements are the same when sorted.
-use Rattle.std.proofs.Common.{◌≡◌, ℕ, ◌+◌, ◌<◌, suc, cond, List, [], ◌∷◌, ◌++◌, refl, sym, ap, if◌then◌else◌, subst, arith, IsPermutation, IsSorted, sum_by, Ordering, Equal, is_eq, is_gt}
+use Rattle.std.proofs.Common.{◌≡◌, ℕ, ◌<◌, suc, cond, List, [], ◌∷◌, ◌++◌, refl, sym, ap, if◌then◌else◌, subst, arith, IsPermutation, IsSorted, sum_by, Ordering, Equal, is_eq, is_gt}
 use Rattle.std.proofs.lemmas.List.Sorted.{sum_by-IsPermutation}
 use Rattle.std.proofs.lemmas.List.Sums.{sum_by-cons, sum_by-append}
 use Rattle.std.specs.Cmp.{IsTotalOrder, tied_itself}

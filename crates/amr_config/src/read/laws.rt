@@ -5,6 +5,7 @@ ghost use Rattle.amr_config.specs.Read.ReadLaws.{RoutesAreInPreorder, ReadConfig
 ghost use Rattle.amr_config.specs.Read.StatedLaws.{ReadValuesHaveOrderedKeys, IntegrationsAreInOrder};
 
 /// States that each object in a value read from JSON text has each key once, in byte order.
+#[tactic(auto, using(crate::proofs::ReadLemmas::ReadKeys::read_ordered))]
 pub fn read_values_have_ordered_keys()
     ensures { ReadValuesHaveOrderedKeys }
 {}

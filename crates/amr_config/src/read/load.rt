@@ -28,7 +28,7 @@ pub fn load_config(alloc: Global, value: &Value) -> Result<Config, ConfigError>
 
 /// Returns the configuration of a JSON value, as `load_config` does. Its matchers share their
 /// patterns with the matchers that were made before with these.
-#[tactic(auto, unfolding(crate::specs::Read::Reading::reading_of, crate::specs::Read::Readings::next))]
+#[tactic(auto, using(crate::proofs::ReadLemmas::TreeOrder::parents_first), unfolding(crate::specs::Read::Reading::reading_of, crate::specs::Read::Readings::next))]
 pub fn config_of(alloc: Global, built: &mut Patterns, value: &Value) -> Result<Config, ConfigError>
     ensures { Answers (λ config. config) result (ConfigIs (view value.now)) }
 {
