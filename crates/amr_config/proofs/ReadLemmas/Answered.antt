@@ -10,8 +10,8 @@ use Rattle.amr_config.specs.Read.RouteParts.{is_too_deep}
 use Rattle.amr_config.specs.Read.Walking.{walked_at}
 use Rattle.amr_config.specs.Read.Table.{StatesWhole}
 use Rattle.amr_config.specs.Read.Faults.{first_fault, patterns_before, findings_of}
-use Rattle.amr_config.proofs.ReadLemmas.Judged.{Judged, Tells, told}
-use Rattle.amr_config.proofs.ReadLemmas.JudgedRoutes.{walked_judged}
+use Rattle.amr_config.proofs.ReadLemmas.Judged.{Judged, Tells}
+use Rattle.amr_config.proofs.ReadLemmas.JudgedRoutes.{walked_judged, walked_states}
 use Rattle.amr_config.proofs.ReadLemmas.DeepRoutes.{deep_route_of}
 use Rattle.amr_config.specs.Stated.Config.{Config}
 use Rattle.amr_config.specs.Read.Judging.{refusal_of}
@@ -22,8 +22,7 @@ use Rattle.amr_config.proofs.ReadLemmas.WholeConfigs.{was_judged}
 pub what_is_read_is_stated : WhatIsReadIsStated
 what_is_read_is_stated d config e =
     let was = was_judged d config e in
-    let states = told (walked_at d).value (findings_of d) (StatesWhole d) was.stated was.walked (walked_judged d was.shallow).tells in
-    rw was.is states
+    rw was.is (walked_states d was.stated was.shallow was.walked)
 
 -- ---- answers
 

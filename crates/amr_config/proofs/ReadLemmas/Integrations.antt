@@ -16,7 +16,7 @@ use Rattle.amr_config.specs.declared.stated.receiver.Integration.{Integration}
 use Rattle.amr_config.specs.declared.stated.receiver.Receiver.{Receiver}
 use Rattle.amr_config.specs.Read.Paths.{item_path}
 use Rattle.amr_config.specs.Read.ReadReceivers.{is_on_side, kind_key, with_entries, kinds_at, name_at, receiver_at, receiver_into, receivers_list, receivers_at}
-use Rattle.amr_config.proofs.ReadLemmas.WalkedParts.{ok_same, bind_ok, was_walked}
+use Rattle.amr_config.proofs.ReadLemmas.WalkedParts.{ok_same, bind_ok, walked_receivers}
 use Rattle.amr_config.specs.declared.stated.stated.Stated.{Stated}
 use Rattle.amr_config.specs.Read.Readings.{items_in_turn}
 use Rattle.amr_config.specs.Read.Walking.{walked_at}
@@ -215,4 +215,4 @@ receivers_in_order d receivers order e =
         rw is (rw (← some) (list_in_order (codes "receivers") 0 items.0 [] read.0 ordered items.2 refl))
 
 pub walked_in_order : (d : Data) (stated : Stated) → HasOrderedKeys d → (walked_at d).value ≡ Ok stated → AreReceiversInOrder stated.receivers
-walked_in_order d stated order e = receivers_in_order d stated.receivers order (was_walked d stated e).receivers
+walked_in_order d stated order e = receivers_in_order d stated.receivers order (walked_receivers d stated e)

@@ -7,6 +7,7 @@ use Rattle.serde_json.specs.Find.{as_array}
 use Rattle.amr_labels.specs.Labels.{Text}
 use Rattle.amr_time.specs.SpanRead.{span_of}
 use Rattle.amr_config.specs.declared.stated.route.Route.{Route}
+use Rattle.amr_config.specs.declared.stated.stated.Stated.{Stated}
 use Rattle.amr_config.specs.Read.Paths.{under, item_path}
 use Rattle.amr_config.specs.Read.Members.{member_of, optional, optional_member, or_faulty, text_at, flag_at, items_at, span_at, texts_at, any_item, list_in}
 use Rattle.amr_config.specs.Read.ReadIntervals.{names_at}
@@ -82,14 +83,6 @@ walk_one whole path parent d =
       },
     )))))))))))
 
-walk_own : (whole : Data) (path : List ℕ) (parent : Option ℕ) (d : Data) (routes : List Route) → Judged (own_into whole path parent d routes) (own_found whole path d) (AddsRoute whole parent d routes)
-unfolding own_into
-walk_own whole path parent d routes =
-    judged_map _ _ _ _ _ (walk_one whole path parent d) (λ route (of, is). (route, refl, of, is))
-
-pub own_adds : (whole : Data) (path : List ℕ) (parent : Option ℕ) (d : Data) (routes own : List Route) → (own_into whole path parent d routes).value ≡ Ok own → AddsRoute whole parent d routes own
-own_adds whole path parent d routes own e = told _ _ _ own e (walk_own whole path parent d routes).tells
-
 -- ---- routes below routes
 
 abbrev AddsTree : Data → Option ℕ → Data → List Route → List Route → Type 0
@@ -136,11 +129,11 @@ route_grows whole parent d routes own after (route, adds, of, is) (children, fou
     (route ∷ trees, rest ∙ ap (λ l. l ++ trees) adds ∙ append_assoc routes (route ∷ []) trees, Tree (length routes) parent d route children trees is of (found, states, same) (subst (λ n. AreTrees whole n (length routes) children trees) long are))
 
 walk_route : (whole : Data) (left : ℕ) → JudgesTree whole left
-unfolding add_route is_deeper own_found route_found
+unfolding add_route is_deeper own_found route_found own_into
 walk_route whole zero path parent d routes shallow = absurd (true≢false shallow)
 walk_route whole (suc left) path parent d routes shallow =
     by_findings _ (own_found whole path d ++ at (list_found (route_found whole left)) path (codes "routes") d) _ _ (simp append_assoc)
-    (judged_then (own_into whole path parent d routes) _ (own_found whole path d) (at (list_found (route_found whole left)) path (codes "routes") d) (AddsRoute whole parent d routes) _ (walk_own whole path parent d routes) (λ own adds.
+    (judged_then (own_into whole path parent d routes) _ (own_found whole path d) (at (list_found (route_found whole left)) path (codes "routes") d) (AddsRoute whole parent d routes) _ (judged_map _ _ _ _ _ (walk_one whole path parent d) (λ route (of, is). (route, refl, of, is))) (λ own adds.
     judged_as _ _ _ _ (walk_below whole left path (length routes) d own (walk_route whole left) shallow) (λ after below. route_grows whole parent d routes own after adds below)))
 
 walk_tree : (whole : Data) (o : Option Data) → option_map_or (is_deeper 32) o false ≡ false → Judged (tree_from whole o) (if_there_or (Fault (codes "route") ∷ []) (route_found whole 32 (codes "route")) o) (λ routes. (v : Data) × (o ≡ Some v) × IsTree whole 0 None v routes)
@@ -172,3 +165,6 @@ walked_judged d shallow =
       time_intervals = record { mute = mute; named = of_named; of_mute = rw same_mute has_mute; of_named = has_named; all = same_named };
       routes = has_routes;
     }))))))))
+
+pub walked_states : (d : Data) (stated : Stated) → is_too_deep d ≡ false → (walked_at d).value ≡ Ok stated → StatesWhole d stated
+walked_states d stated shallow e = told _ _ _ stated e (walked_judged d shallow).tells

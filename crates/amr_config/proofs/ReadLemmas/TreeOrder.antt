@@ -1,20 +1,16 @@
 -- The routes that are parsed are in preorder.
-use Rattle.std.proofs.Common.{◌≡◌, inl, inr, ℕ, zero, suc, ◌+◌, ◌<◌, ◌≤◌, List, [], ◌∷◌, ◌++◌, length, Option, Some, None, Ok, codes, refl, sym, ap, ◌∙◌, arith, append_assoc, eq-or-lt_of_le, slice_get}
+use Rattle.std.proofs.Common.{◌≡◌, false, inl, inr, ℕ, zero, suc, ◌+◌, ◌<◌, ◌≤◌, List, [], ◌∷◌, ◌++◌, length, length-append, Option, Some, None, Ok, refl, sym, ◌∙◌, arith, append_assoc, eq-or-lt_of_le, slice_get}
 use Rattle.std.specs.Option.{option_map_or}
 use Rattle.std.proofs.lemmas.Option.{none-some, same_Some, slice_get_past}
 use Rattle.std.proofs.lemmas.List.{length_push, append-nil}
-use Rattle.serde_json.specs.Data.{Data, Items, no_items, item}
+use Rattle.serde_json.specs.Data.{Data, Items}
 use Rattle.amr_config.specs.declared.stated.route.Route.{Route}
 use Rattle.amr_config.specs.declared.stated.stated.Stated.{Stated}
-use Rattle.amr_config.specs.Read.Paths.{under, item_path}
-use Rattle.amr_config.specs.Read.Members.{member_of}
-use Rattle.amr_config.specs.Read.Readings.{items_in_turn}
-use Rattle.amr_config.specs.Read.RouteParts.{children_at}
-use Rattle.amr_config.specs.Read.ReadRoutes.{own_into, add_route, child_into, tree_from, routes_at}
 use Rattle.amr_config.specs.Read.Walking.{walked_at}
+use Rattle.amr_config.specs.Read.RouteParts.{is_too_deep}
+use Rattle.amr_config.specs.Read.Table.{IsTree as StatesTree, AreTrees as StatesTrees, Tree, NoMore, OneMore}
 use Rattle.amr_config.specs.Settled.{AreParentsFirst, stated_config}
-use Rattle.amr_config.proofs.ReadLemmas.WalkedParts.{ok_same, bind_ok, was_walked}
-use Rattle.amr_config.proofs.ReadLemmas.JudgedRoutes.{own_adds}
+use Rattle.amr_config.proofs.ReadLemmas.JudgedRoutes.{walked_states}
 
 abbrev pub parent_at : List Route → ℕ → Option ℕ
 parent_at routes n = option_map_or (λ (route : Route). route.parent) (slice_get routes n) None
@@ -54,14 +50,6 @@ record MayFollow (routes : List Route) (parent : Option ℕ) : Type 0 where
   linked : IsLinked routes
   follows : (last : ℕ) → suc last ≡ length routes → (p : ℕ) × (parent ≡ Some p) × IsAbove routes last p
 
--- what a route and those below it add
-record Adds (routes after : List Route) (parent : Option ℕ) : Type 0 where
-  grown : (more : List Route) × (after ≡ routes ++ more)
-  longer : length routes < length after
-  linked : IsLinked after
-  has : parent_at after (length routes) ≡ parent
-  under : (last : ℕ) → suc last ≡ length after → IsAbove after last (length routes)
-
 linked_push : (routes : List Route) (route : Route) → MayFollow routes route.parent → IsLinked (routes ++ route ∷ [])
 linked_push routes route may n lt =
     let le : suc n ≤ length routes = omega (arith, lt, length_push routes route) in
@@ -78,60 +66,31 @@ record Open (routes : List Route) (top : ℕ) : Type 0 where
   within : top < length routes
   under : (last : ℕ) → suc last ≡ length routes → IsAbove routes last top
 
--- what a list of routes below one adds
-record AddsAll (routes after : List Route) (top : ℕ) : Type 0 where
-  grown : (more : List Route) × (after ≡ routes ++ more)
-  longer : length routes ≤ length after
-  still : Open after top
-
-grown_twice : (a b c : List Route) → (more : List Route) × (b ≡ a ++ more) → (more : List Route) × (c ≡ b ++ more) → (more : List Route) × (c ≡ a ++ more)
-grown_twice a b c (m, e) (n, f) = (m ++ n, f ∙ ap (λ l. l ++ n) e ∙ append_assoc a m n)
-
-items_add : (whole : Data) (left : ℕ) (path : List ℕ) (top : ℕ)
-    → ((path : List ℕ) (parent : Option ℕ) (d : Data) (routes after : List Route) → (add_route whole left path parent d routes).value ≡ Ok after → MayFollow routes parent → Adds routes after parent)
-    → (i : ℕ) (ds : Items) (routes after : List Route) → (items_in_turn (child_into whole left path top) i ds routes).value ≡ Ok after → Open routes top → AddsAll routes after top
-items_add whole left path top adds i no_items routes after e o =
-    let same = ok_same routes after e in
-    rw (← same) (record { grown = ([], sym (append-nil routes)); longer = omega arith; still = o })
-items_add whole left path top adds i (item d ds) routes after e o =
-    let a = bind_ok (child_into whole left path top i d routes) _ after e in
-    let one = adds (item_path (under path (codes "routes")) i) (Some top) d routes a.0 a.1 (record { linked = o.linked; follows = λ last is. (top, refl, o.under last is) }) in
-    let opened : Open a.0 top = record { linked = one.linked; within = omega (arith, o.within, one.longer); under = λ last is. above_above a.0 last (length routes) top (one.under last is) one.has } in
-    let rest = items_add whole left path top adds (i + 1) ds a.0 after a.2 opened in
-    record { grown = grown_twice routes a.0 after one.grown rest.grown; longer = omega (arith, one.longer, rest.longer); still = rest.still }
-
-own_opens : (routes : List Route) (route : Route) (after : List Route) → after ≡ routes ++ route ∷ [] → MayFollow routes route.parent → Open after (length routes)
-own_opens routes route after is may =
-    rw is (record {
-      linked = linked_push routes route may;
-      within = omega (arith, length_push routes route);
-      under = λ last e.
-          let same : last ≡ length routes = omega (arith, e, length_push routes route) in
-          rw same (Itself (length routes));
-    })
-
-route_adds : (whole : Data) (left : ℕ) (path : List ℕ) (parent : Option ℕ) (d : Data) (routes after : List Route) → (add_route whole left path parent d routes).value ≡ Ok after → MayFollow routes parent → Adds routes after parent
-unfolding add_route
-route_adds whole zero path parent d routes after e may = cc
-route_adds whole (suc left) path parent d routes after e may =
-    let a = bind_ok (own_into whole path parent d routes) _ after e in
-    let b = bind_ok (children_at path d) _ after a.2 in
-    let own = own_adds whole path parent d routes a.0 a.1 in
-    let opened = own_opens routes own.0 a.0 own.1 (rw own.2 may) in
-    let rest = items_add whole left path (length routes) (route_adds whole left) 0 b.0 a.0 after b.2 opened in
+own_opens : (routes : List Route) (route : Route) (n : ℕ) → n ≡ length routes → MayFollow routes route.parent → Open (routes ++ route ∷ []) n
+own_opens routes route n at may =
     record {
-      grown = grown_twice routes a.0 after (own.0 ∷ [], own.1) rest.grown;
-      longer = omega (arith, opened.within, rest.longer);
-      linked = rest.still.linked;
-      has = rw rest.grown.1 (parent_further a.0 rest.grown.0 (length routes) opened.within ∙ rw own.1 (parent_last routes own.0 ∙ own.2));
-      under = rest.still.under;
+      linked = linked_push routes route may;
+      within = omega (arith, at, length_push routes route);
+      under = λ last e.
+          let same : last ≡ n = omega (arith, at, e, length_push routes route) in
+          rw same (Itself n);
     }
 
-found_adds : (whole : Data) (found : Option Data) (routes : List Route) → (tree_from whole found).value ≡ Ok routes → Adds [] routes None
-found_adds whole None routes e = cc
-found_adds whole (Some d) routes e =
-    route_adds whole 32 (codes "route") None d [] routes e
-    (record { linked = λ n lt. absurd (omega (arith, lt)); follows = λ last end. absurd (omega (arith, end)) })
+mutual
+  -- a route and those below it, after those before them
+  tree_opens : (whole : Data) (n : ℕ) (parent : Option ℕ) (d : Data) (tree before : List Route) → StatesTree whole n parent d tree → n ≡ length before → MayFollow before parent → Open (before ++ tree) n × (parent_at (before ++ tree) n ≡ parent)
+  tree_opens whole _ _ _ _ before (Tree n parent d route children below is of states trees) at may =
+      let opened : Open (before ++ route ∷ []) n = own_opens before route n at (rw of may) in
+      let has : parent_at (before ++ route ∷ []) n ≡ parent = rw at (parent_last before route ∙ of) in
+      let still = trees_open whole (n + 1) n children below (before ++ route ∷ []) trees (omega (arith, at, length_push before route)) opened in
+      rw (← append_assoc before (route ∷ []) below) (still, parent_further (before ++ route ∷ []) below n opened.within ∙ has)
+
+  trees_open : (whole : Data) (n top : ℕ) (ds : Items) (trees before : List Route) → StatesTrees whole n top ds trees → n ≡ length before → Open before top → Open (before ++ trees) top
+  trees_open whole _ _ _ _ before (NoMore n top) at o = rw append-nil o
+  trees_open whole _ _ _ _ before (OneMore n top d ds tree rest first later) at o =
+      let (one, has) = tree_opens whole n (Some top) d tree before first at (record { linked = o.linked; follows = λ last is. (top, refl, o.under last is) }) in
+      let opened : Open (before ++ tree) top = record { linked = one.linked; within = omega (arith, o.within, length-append before tree); under = λ last is. above_above (before ++ tree) last n top (one.under last is) has } in
+      rw (← append_assoc before tree rest) (trees_open whole (n + length tree) top ds rest (before ++ tree) later (omega (arith, at, length-append before tree)) opened)
 
 -- the routes of a whole configuration
 pub record IsTree (routes : List Route) : Type 0 where
@@ -139,11 +98,11 @@ pub record IsTree (routes : List Route) : Type 0 where
   pub root : parent_at routes 0 ≡ None
   pub linked : IsLinked routes
 
-pub walked_tree : (d : Data) (stated : Stated) → (walked_at d).value ≡ Ok stated → IsTree stated.routes
-unfolding routes_at
-walked_tree d stated e =
-    let adds = found_adds d (member_of (codes "route") d) stated.routes (was_walked d stated e).routes in
-    record { some = adds.longer; root = adds.has; linked = adds.linked }
+pub walked_tree : (d : Data) (stated : Stated) → is_too_deep d ≡ false → (walked_at d).value ≡ Ok stated → IsTree stated.routes
+walked_tree d stated shallow e =
+    let (root, is, tree) = (walked_states d stated shallow e).routes in
+    let (opened, has) = tree_opens d 0 None root stated.routes [] tree refl (record { linked = λ n lt. absurd (omega (arith, lt)); follows = λ last end. absurd (omega (arith, end)) }) in
+    record { some = opened.within; root = has; linked = opened.linked }
 
 -- ---- each parent comes before its children
 
@@ -163,5 +122,5 @@ parent_before routes tree (suc most) (suc n) parent lt e =
     let le = above_within routes n p up (λ m q h. parent_before routes tree most m q (omega (arith, h, lt))) in
     omega (arith, same, le)
 
-pub parents_first : (d : Data) (stated : Stated) → (walked_at d).value ≡ Ok stated → AreParentsFirst (stated_config stated)
-parents_first d stated e n parent up = parent_before stated.routes (walked_tree d stated e) (n + 1) n parent (omega arith) up
+pub parents_first : (d : Data) (stated : Stated) → is_too_deep d ≡ false → (walked_at d).value ≡ Ok stated → AreParentsFirst (stated_config stated)
+parents_first d stated shallow e n parent up = parent_before stated.routes (walked_tree d stated shallow e) (n + 1) n parent (omega arith) up

@@ -22,14 +22,10 @@ pub bind_ok : {A B : Type 0} (part : Reading A) (f : A → Reading B) (b : B) �
 unfolding next
 bind_ok part f b e = after_ok part.value f b e
 
--- what was read of a whole configuration
-pub record WasWalked (d : Data) (stated : Stated) : Type 0 where
-  pub receivers : (receivers_at d).value ≡ Ok stated.receivers
-  pub routes : (routes_at d).value ≡ Ok stated.routes
-
-pub was_walked : (d : Data) (stated : Stated) → (walked_at d).value ≡ Ok stated → WasWalked d stated
+-- the receivers that were read with a whole configuration
+pub walked_receivers : (d : Data) (stated : Stated) → (walked_at d).value ≡ Ok stated → (receivers_at d).value ≡ Ok stated.receivers
 unfolding walked_at
-was_walked d stated e =
+walked_receivers d stated e =
     let timeout = bind_ok (timeout_at d) _ stated e in
     let rules = bind_ok (rules_at d) _ stated timeout.2 in
     let mute = bind_ok (intervals_at (codes "mute_time_intervals") d []) _ stated rules.2 in
@@ -37,4 +33,4 @@ was_walked d stated e =
     let routes = bind_ok (routes_at d) _ stated receivers.2 in
     let named = bind_ok (intervals_at (codes "time_intervals") d mute.0) _ stated routes.2 in
     let same = ok_same _ stated named.2 in
-    rw (← same) (record { receivers = receivers.1; routes = routes.1 })
+    rw (← same) receivers.1

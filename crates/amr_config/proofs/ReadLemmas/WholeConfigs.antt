@@ -62,7 +62,7 @@ preorder config first tree n parent e =
 pub routes_are_in_preorder : RoutesAreInPreorder
 routes_are_in_preorder d config e =
     let was = was_judged d config e in
-    rw was.is (preorder (stated_config was.stated) (parents_first d was.stated was.walked) (walked_tree d was.stated was.walked))
+    rw was.is (preorder (stated_config was.stated) (parents_first d was.stated was.shallow was.walked) (walked_tree d was.stated was.shallow was.walked))
 
 -- what was parsed passes the validation
 
@@ -107,14 +107,14 @@ parent_there config first tree (suc n) some lt =
     let (parent, is, up) = tree.linked n lt in
     (parent, is, first (suc n) parent is)
 
-whole : (d : Data) (stated : Stated) → HasOrderedKeys d → (walked_at d).value ≡ Ok stated → refusal_of stated ≡ None → IsConfig (stated_config stated)
-whole d stated ordered walked accepted =
-    let tree = walked_tree d stated walked in
+whole : (d : Data) (stated : Stated) → HasOrderedKeys d → is_too_deep d ≡ false → (walked_at d).value ≡ Ok stated → refusal_of stated ≡ None → IsConfig (stated_config stated)
+whole d stated ordered shallow walked accepted =
+    let tree = walked_tree d stated shallow walked in
     let is = good stated accepted in
     record {
       root = tree.root;
       root_receiver = root_names stated.routes is.root;
-      parents = parent_there (stated_config stated) (parents_first d stated walked) tree;
+      parents = parent_there (stated_config stated) (parents_first d stated shallow walked) tree;
       known_receivers = all_known stated is;
       different_receivers = named_apart stated.receivers ∙ is.apart;
       integrations = walked_in_order d stated ordered walked;
@@ -123,4 +123,4 @@ whole d stated ordered walked accepted =
 pub read_configs_are_whole : ReadConfigsAreWhole
 read_configs_are_whole d config ordered e =
     let was = was_judged d config e in
-    rw was.is (whole d was.stated ordered was.walked was.accepted)
+    rw was.is (whole d was.stated ordered was.shallow was.walked was.accepted)
