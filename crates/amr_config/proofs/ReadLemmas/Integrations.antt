@@ -3,28 +3,25 @@ use Rattle.std.specs.List.{list_all}
 use Rattle.std.specs.Ordering.{match_ordering}
 use Rattle.std.proofs.lemmas.Option.{none-some, same_Some}
 use Rattle.serde_json.specs.Find.{get, get_member, as_object}
-use Rattle.amr_config.specs.Read.Members.{member_of, unless_null, optional, optional_member, required_member, items_at}
+use Rattle.amr_config.specs.Read.Members.{member_of, unless_null}
 use Rattle.std.proofs.Common.{◌≡◌, inl, inr, ◌⊎◌, ◌≢◌, ℕ, ◌+◌, ◌-◌, Bool, true, false, List, [], ◌∷◌, ◌++◌, length, drop, Option, Some, None, Ok, refl, sym, ap, ◌∙◌, arith, codes, unwrap_or, append-nil, take-append-drop, Ordering, Less, Equal, Greater, Contains}
 use Rattle.std.proofs.lemmas.List.Elements.{Contains-append_cases, Contains-append_right}
 use Rattle.std.proofs.lemmas.Cmp.{tied_itself}
 use Rattle.std.proofs.lemmas.Bool.{and_from, and_parts}
-use Rattle.std.proofs.lemmas.List.Folds.{list_all-append}
 use Rattle.std.specs.Cmp.Lexicographic.{nat_list_cmp_total, same_text}
 use Rattle.serde_json.specs.Data.{Data, null, array, object, Items, no_items, item, Members, no_members, member}
 use Rattle.amr_labels.specs.Labels.{Text, text_cmp, text_cmp-IsAntisymmetric}
 use Rattle.amr_config.specs.declared.stated.receiver.Integration.{Integration}
 use Rattle.amr_config.specs.declared.stated.receiver.Receiver.{Receiver}
-use Rattle.amr_config.specs.Read.Paths.{item_path}
-use Rattle.amr_config.specs.Read.ReadReceivers.{is_on_side, kind_key, with_entries, kinds_at, name_at, receiver_at, receiver_into, receivers_list, receivers_at}
-use Rattle.amr_config.proofs.ReadLemmas.WalkedParts.{ok_same, bind_ok, walked_receivers}
+use Rattle.amr_config.specs.Read.ReadReceivers.{is_on_side, kind_key, with_entries}
+use Rattle.amr_config.proofs.ReadLemmas.WalkedParts.{walked_receivers}
 use Rattle.amr_config.specs.declared.stated.stated.Stated.{Stated}
-use Rattle.amr_config.specs.Read.Readings.{items_in_turn}
 use Rattle.amr_config.specs.Read.Walking.{walked_at}
 use Rattle.amr_config.specs.Read.Keys.{IsBelow, AreInOrder, HasOrderedKeys, HaveOrderedKeys, AllHaveOrderedKeys}
 use Rattle.amr_config.specs.Read.Order.{are_in_order, goes_before}
-use Rattle.amr_config.specs.Read.Table.{StatesEach, IsIntegration}
+use Rattle.amr_config.specs.Read.Table.{StatesEach, StatesIf, StatesOr, IsListOf, HasAt, IsText, IsIntegration}
 use Rattle.amr_config.proofs.ReadLemmas.Judged.{told}
-use Rattle.amr_config.proofs.ReadLemmas.JudgedReceivers.{HasEntries, KindFrom, kind_on, KindsFrom, entries_there, judged_side, in_with, on_side}
+use Rattle.amr_config.proofs.ReadLemmas.JudgedReceivers.{HasEntries, KindFrom, kind_on, KindsFrom, entries_there, SideFrom, judged_receivers, in_with, on_side}
 
 -- ---- the entries of a kind
 
@@ -143,35 +140,26 @@ object_ordered : (d : Data) (ms : Members) → HasOrderedKeys d → as_object d 
 object_ordered (object ks) ms order e = rw (← same_Some ks ms e) order.0
 object_ordered d ms order e = absurd (cc)
 
-receiver_in_order : (path : List ℕ) (d : Data) (receiver : Receiver) → HasOrderedKeys d → (receiver_at path d).value ≡ Ok receiver → are_in_order receiver.integrations ≡ true
-unfolding receiver_at
-receiver_in_order path d receiver order e =
-    let first = bind_ok (kinds_at true path d []) _ receiver e in
-    let name = bind_ok (required_member name_at path (codes "name") d) _ receiver first.2 in
-    let all = bind_ok (kinds_at false path d first.0) _ receiver name.2 in
-    let (ms, is, before) = told _ _ _ first.0 first.1 (judged_side true path d []).tells in
-    let (others, are, after) = told _ _ _ all.0 all.1 (judged_side false path d first.0).tells in
-    let (order_first, past) = kinds_order true ms [] first.0 before (object_ordered d ms order is) refl (λ x c. absurd (omega (arith, c.1))) in
-    let whole = kinds_order false others first.0 all.0 after (object_ordered d others order are) order_first (λ x c. past_side others x (past x c)) in
-    rw (← ok_same _ receiver all.2) whole.0
+-- the integrations are in order if the keys of the value are
+abbrev IsOrdered : Data → Receiver → Type 0
+IsOrdered d receiver = HasOrderedKeys d → are_in_order receiver.integrations ≡ true
+
+sides_in_order : (d : Data) (name : Text) (first all : List Integration) → SideFrom true d [] first → HasAt IsText (codes "name") d name → SideFrom false d first all → IsOrdered d (record { name = name; integrations = all })
+sides_in_order d name first all (ms, is, before) has (others, are, after) order =
+    let (order_first, past) = kinds_order true ms [] first before (object_ordered d ms order is) refl (λ x c. absurd (omega (arith, c.1))) in
+    (kinds_order false others first all after (object_ordered d others order are) order_first (λ x c. past_side others x (past x c))).0
 
 abbrev AreReceiversInOrder : List Receiver → Type 0
 AreReceiversInOrder receivers = list_all (λ (receiver : Receiver). are_in_order receiver.integrations) receivers ≡ true
 
-list_in_order : (path : List ℕ) (i : ℕ) (ds : Items) (before after : List Receiver) → HaveOrderedKeys ds → (items_in_turn (receiver_into path) i ds before).value ≡ Ok after → AreReceiversInOrder before → AreReceiversInOrder after
-unfolding receiver_into
-list_in_order path i no_items before after order e h = rw (← ok_same before after e) h
-list_in_order path i (item d ds) before after order e h =
-    let one = bind_ok (receiver_into path i d before) _ after e in
-    let read = bind_ok (receiver_at (item_path path i) d) _ one.0 one.1 in
-    let is = ok_same _ one.0 read.2 in
-    let whole = list_all-append (λ (r : Receiver). are_in_order r.integrations) before (read.0 ∷ [])
-    ∙ and_from _ _ h (and_from _ _ (receiver_in_order (item_path path i) d read.0 order.0 read.1) refl) in
-    list_in_order path (i + 1) ds one.0 after order.1 one.2 (rw (← is) whole)
+each_in_order : (i : ℕ) (ds : Items) (receivers : List Receiver) → HaveOrderedKeys ds → StatesEach (λ i. IsOrdered) i ds receivers → AreReceiversInOrder receivers
+each_in_order i no_items [] order are = refl
+each_in_order i (item d ds) (receiver ∷ receivers) order are = and_from _ _ (are.0 order.0) (each_in_order (i + 1) ds receivers order.1 are.1)
+each_in_order i ds receivers order are = absurd are
 
-items_ordered : (path : List ℕ) (d : Data) (ds : Items) → HasOrderedKeys d → (items_at path d).value ≡ Ok ds → HaveOrderedKeys ds
-items_ordered path (array es) ds order e = rw (← ok_same es ds e) order
-items_ordered path d ds order e = absurd (cc)
+list_in_order : (d : Data) (receivers : List Receiver) → HasOrderedKeys d → IsListOf IsOrdered d receivers → AreReceiversInOrder receivers
+list_in_order (array es) receivers order (ds, is, are) = each_in_order 0 ds receivers (rw (← same_Some es ds is) order) are
+list_in_order d receivers order (ds, is, are) = absurd (cc)
 
 at_key : (o : Ordering) (e : Data) (later : Option Data) (d : Data) → match_ordering o later (Some e) later ≡ Some d → (e ≡ d) ⊎ (later ≡ Some d)
 at_key Equal e later d is = inl (same_Some e d is)
@@ -189,7 +177,7 @@ present_is : (o : Option Data) (d : Data) → unless_null o ≡ Some d → o ≡
 present_is (Some null) d e = absurd (none-some d e)
 present_is o d e = e
 
-pub member_ordered : (key : Text) (d v : Data) → HasOrderedKeys d → member_of key d ≡ Some v → HasOrderedKeys v
+member_ordered : (key : Text) (d v : Data) → HasOrderedKeys d → member_of key d ≡ Some v → HasOrderedKeys v
 unfolding member_of
 member_ordered key d v order e = go d order (present_is (get key d) v e)
   where
@@ -197,22 +185,14 @@ member_ordered key d v order e = go d order (present_is (get key d) v e)
     go (object ms) order e = found_ordered key ms v order.1 e
     go d order e = absurd (none-some v e)
 
-pub receivers_in_order : (d : Data) (receivers : List Receiver) → HasOrderedKeys d → (receivers_at d).value ≡ Ok receivers → AreReceiversInOrder receivers
-unfolding receivers_at receivers_list
-receivers_in_order d receivers order e =
-    let found = bind_ok (optional_member receivers_list [] (codes "receivers") d) _ receivers e in
-    go (member_of (codes "receivers") d) refl found.0 found.1 (sym (ok_same _ receivers found.2))
+receivers_in_order : (d : Data) (receivers : List Receiver) → HasOrderedKeys d → StatesOr [] (IsListOf IsOrdered) (codes "receivers") d receivers → AreReceiversInOrder receivers
+receivers_in_order d receivers order (found, states, is) = rw is (go (member_of (codes "receivers") d) refl found states)
   where
-    go : (o : Option Data) → member_of (codes "receivers") d ≡ o → (found : Option (List Receiver)) → (optional (receivers_list (codes "receivers")) o).value ≡ Ok found → receivers ≡ unwrap_or found [] → AreReceiversInOrder receivers
-    go None at found e is =
-        let none = ok_same _ found e in
-        rw is (rw (← none) refl)
-    go (Some v) at found e is =
-        let read = bind_ok (receivers_list (codes "receivers") v) _ found e in
-        let some = ok_same _ found read.2 in
-        let items = bind_ok (items_at (codes "receivers") v) _ read.0 read.1 in
-        let ordered = items_ordered (codes "receivers") v items.0 (member_ordered (codes "receivers") d v order at) items.1 in
-        rw is (rw (← some) (list_in_order (codes "receivers") 0 items.0 [] read.0 ordered items.2 refl))
+    go : (o : Option Data) → member_of (codes "receivers") d ≡ o → (found : Option (List Receiver)) → StatesIf (IsListOf IsOrdered) o found → AreReceiversInOrder (unwrap_or found [])
+    go None at None states = refl
+    go (Some v) at (Some read) states = list_in_order v read (member_ordered (codes "receivers") d v order at) states
+    go o at found states = absurd states
 
 pub walked_in_order : (d : Data) (stated : Stated) → HasOrderedKeys d → (walked_at d).value ≡ Ok stated → AreReceiversInOrder stated.receivers
-walked_in_order d stated order e = receivers_in_order d stated.receivers order (walked_receivers d stated e)
+walked_in_order d stated order e =
+    receivers_in_order d stated.receivers order (told _ _ _ stated.receivers (walked_receivers d stated e) (judged_receivers IsOrdered sides_in_order d).tells)

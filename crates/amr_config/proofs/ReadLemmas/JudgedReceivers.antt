@@ -7,6 +7,7 @@ use Rattle.serde_json.specs.Data.{Data, null, Items, no_items, item, Members, no
 use Rattle.serde_json.specs.Find.{as_str, as_array, as_object, get_item}
 use Rattle.amr_labels.specs.Labels.{Text, text_cmp, text_cmp-IsAntisymmetric}
 use Rattle.amr_config.specs.declared.stated.receiver.Integration.{Integration}
+use Rattle.amr_config.specs.declared.stated.receiver.Receiver.{Receiver}
 use Rattle.amr_config.specs.Read.Paths.{under, item_path}
 use Rattle.amr_config.specs.Read.Members.{unless_null, member_of, or_faulty, flag_at}
 use Rattle.amr_config.specs.Read.Readings.{give, faulty, members_in_turn}
@@ -80,7 +81,7 @@ judged_kinds side path (member key d ms) before =
 abbrev pub SideFrom : Bool → Data → List Integration → List Integration → Type 0
 SideFrom side d before after = (ms : Members) × (as_object d ≡ Some ms) × KindsFrom side ms before after
 
-pub judged_side : (side : Bool) (path : List ℕ) (d : Data) (before : List Integration) → Judged (kinds_at side path d before) (side_found side path (as_object d)) (SideFrom side d before)
+judged_side : (side : Bool) (path : List ℕ) (d : Data) (before : List Integration) → Judged (kinds_at side path d before) (side_found side path (as_object d)) (SideFrom side d before)
 unfolding kinds_at
 judged_side side path d before =
     judged_there path (as_object d) _ (side_found side path) _ refl (λ ms is.
@@ -243,7 +244,7 @@ on_a_side : (key kind : Text) → kind_key key ≡ Some kind → (kind_on true k
 unfolding is_on_side kind_key
 on_a_side key kind is = grind (arith, text_cmp-IsAntisymmetric key (codes "name"))
 
-read_receiver : (d : Data) (name : Text) (first all : List Integration) → SideFrom true d [] first → HasAt IsText (codes "name") d name → SideFrom false d first all → IsReceiver d (record { name = name; integrations = all })
+pub read_receiver : (d : Data) (name : Text) (first all : List Integration) → SideFrom true d [] first → HasAt IsText (codes "name") d name → SideFrom false d first all → IsReceiver d (record { name = name; integrations = all })
 read_receiver d name first all (ms, is_object, before) has (other, also, after) =
     let same : other ≡ ms = cc in
     let later : KindsFrom false ms first all = rw same at after in
@@ -266,16 +267,18 @@ read_receiver d name first all (ms, is_object, before) has (other, also, after) 
           found_by all x stated.list stated.entries stated.entry stated.is_list stated.at_place stated.is_entry found;
     }
 
-judged_receiver : (path : List ℕ) (d : Data) → Judged (receiver_at path d) (receiver_found path d) (IsReceiver d)
-unfolding receiver_at name_at
-judged_receiver path d =
-    judged_then _ _ _ _ _ _ (judged_side true path d []) (λ first before.
-    judged_then _ _ _ _ _ _ (judged_needed name_at receiver_name_found IsText path (codes "name") d (λ v.
-    judged_there (under path (codes "name")) (as_str v) (λ text. if length text == 0 then faulty (under path (codes "name")) else give text) (λ o. unless (under path (codes "name")) (option_map_or (λ name. not (length name == 0)) o false)) (IsText v) refl (λ text is.
-    judged_unless (length text == 0) text (under path (codes "name")) (IsText v) is))) (λ name has.
-    judged_map _ _ _ _ _ (judged_side false path d first) (λ all after. read_receiver d name first all before has after)))
+-- what is so of each receiver that is read from its sides and its name
+module _ (Is : Data → Receiver → Type 0) (holds : (d : Data) (name : Text) (first all : List Integration) → SideFrom true d [] first → HasAt IsText (codes "name") d name → SideFrom false d first all → Is d (record { name = name; integrations = all })) where
+  judged_receiver : (path : List ℕ) (d : Data) → Judged (receiver_at path d) (receiver_found path d) (Is d)
+  unfolding receiver_at name_at
+  judged_receiver path d =
+      judged_then _ _ _ _ _ _ (judged_side true path d []) (λ first before.
+      judged_then _ _ _ _ _ _ (judged_needed name_at receiver_name_found IsText path (codes "name") d (λ v.
+      judged_there (under path (codes "name")) (as_str v) (λ text. if length text == 0 then faulty (under path (codes "name")) else give text) (λ o. unless (under path (codes "name")) (option_map_or (λ name. not (length name == 0)) o false)) (IsText v) refl (λ text is.
+      judged_unless (length text == 0) text (under path (codes "name")) (IsText v) is))) (λ name has.
+      judged_map _ _ _ _ _ (judged_side false path d first) (λ all after. holds d name first all before has after)))
 
-pub judged_receivers : (d : Data) → Judged (receivers_at d) (at (list_found receiver_found) [] (codes "receivers") d) (StatesOr [] (IsListOf IsReceiver) (codes "receivers") d)
-unfolding receivers_at receivers_list receiver_into
-judged_receivers d =
-    judged_map _ _ _ _ _ (judged_stated receivers_list (list_found receiver_found) (IsListOf IsReceiver) [] (codes "receivers") d (judged_list_of receiver_at receiver_found IsReceiver judged_receiver _)) (λ found states. (found, states, refl))
+  pub judged_receivers : (d : Data) → Judged (receivers_at d) (at (list_found receiver_found) [] (codes "receivers") d) (StatesOr [] (IsListOf Is) (codes "receivers") d)
+  unfolding receivers_at receivers_list receiver_into
+  judged_receivers d =
+      judged_map _ _ _ _ _ (judged_stated receivers_list (list_found receiver_found) (IsListOf Is) [] (codes "receivers") d (judged_list_of receiver_at receiver_found Is judged_receiver _)) (λ found states. (found, states, refl))

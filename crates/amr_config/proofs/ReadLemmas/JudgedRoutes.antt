@@ -15,11 +15,11 @@ use Rattle.amr_config.specs.Read.Readings.{give, next, items_in_turn}
 use Rattle.amr_config.specs.Read.RouteParts.{grouping_stated, children_at, is_deeper, is_too_deep}
 use Rattle.amr_config.specs.Read.ReadRoutes.{route_at, own_into, add_route, child_into, tree_from, routes_at}
 use Rattle.amr_config.specs.Read.Walking.{walked_at}
-use Rattle.amr_config.specs.Read.Table.{IsText, IsFlag, IsDuration, IsListOf, StatesIf, States, HasAt, IsGrouping, IsDefinedName, IsRoute, IsArray, IsTree, Tree, AreTrees, NoMore, OneMore, StatesWhole}
+use Rattle.amr_config.specs.Read.Table.{IsReceiver, IsText, IsFlag, IsDuration, IsListOf, StatesIf, States, HasAt, IsGrouping, IsDefinedName, IsRoute, IsArray, IsTree, Tree, AreTrees, NoMore, OneMore, StatesWhole}
 use Rattle.amr_config.specs.Read.Faults.{Finding, Fault, text_found, flag_found, object_found, spelled_found, each_found, items_found, list_found, if_there, at, if_there_or, needed_at, match_found, defined_name_found, route_found, global_found, interval_list_found, findings_of}
 use Rattle.amr_config.proofs.ReadLemmas.Judged.{Judged, told, by_findings, judged_ok, judged_fault, judged_then, judged_as, judged_map, judged_stated, judged_text, judged_flag, judged_object}
 use Rattle.amr_config.proofs.ReadLemmas.JudgedParts.{judged_texts, judged_span, judged_names, judged_timeout, judged_defined, names_under_read}
-use Rattle.amr_config.proofs.ReadLemmas.JudgedReceivers.{judged_receivers}
+use Rattle.amr_config.proofs.ReadLemmas.JudgedReceivers.{read_receiver, judged_receivers}
 use Rattle.amr_config.proofs.ReadLemmas.JudgedMatchers.{walk_matchers, walk_rules}
 
 -- ---- what a route states itself
@@ -154,7 +154,7 @@ walked_judged d shallow =
     (judged_then _ _ _ _ _ _ (judged_timeout d) (λ timeout has_timeout.
     judged_then _ _ _ _ _ _ (walk_rules d) (λ rules has_rules.
     judged_then _ _ _ _ _ _ (judged_defined (codes "mute_time_intervals") d []) (λ mute (of_mute, same_mute, has_mute).
-    judged_then _ _ _ _ _ _ (judged_receivers d) (λ receivers has_receivers.
+    judged_then _ _ _ _ _ _ (judged_receivers IsReceiver read_receiver d) (λ receivers has_receivers.
     judged_then _ _ _ _ _ _ (walk_routes d shallow) (λ routes has_routes.
     by_findings _ _ _ _ (ap (λ names. if_there (λ v. interval_list_found names (codes "time_intervals") (as_array v)) (member_of (codes "time_intervals") d)) (sym (names_under_read (codes "mute_time_intervals") d mute (rw same_mute has_mute))))
     (judged_map _ _ _ _ _ (judged_defined (codes "time_intervals") d mute) (λ named (of_named, same_named, has_named).
