@@ -1,6 +1,5 @@
 pub mod Answered
 pub mod EntryInsertion
-pub mod Failing
 pub mod Integrations
 pub mod Judged
 pub mod JudgedMatchers
@@ -17,5 +16,4 @@ pub mod Refused
 pub mod DeepRoutes
 pub mod TreeOrder
 pub mod Turns
-pub mod WalkedParts
 pub mod WholeConfigs

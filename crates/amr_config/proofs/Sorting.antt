@@ -1,6 +1,7 @@
 -- Lists of matchers with the same elements are the same when sorted.
-use Rattle.std.proofs.Common.{◌≡◌, ℕ, ◌<◌, suc, cond, List, [], ◌∷◌, ◌++◌, refl, sym, ap, if◌then◌else◌, subst, arith, IsPermutation, IsSorted, sum_by, Ordering, Equal, is_eq, is_gt}
+use Rattle.std.proofs.Common.{◌≡◌, ℕ, ◌<◌, suc, cond, List, [], ◌∷◌, ◌++◌, inl, inr, refl, sym, ap, if◌then◌else◌, subst, arith, IsPermutation, IsSorted, sum_by, Ordering, is_eq, is_gt}
 use Rattle.std.proofs.lemmas.List.Sorted.{sum_by-IsPermutation}
+use Rattle.std.proofs.lemmas.Bool.{cases_Bool}
 use Rattle.std.proofs.lemmas.List.Sums.{sum_by-cons, sum_by-append}
 use Rattle.std.specs.Cmp.{IsTotalOrder, tied_itself}
 use Rattle.std.specs.FinMap.{IsAntisymmetric}
@@ -40,13 +41,11 @@ times x ys = sum_by (one_if_same x) ys
 
 found : (x : Matcher) (ys : List Matcher) → 0 < times x ys → (us : List Matcher) × (vs : List Matcher) × (ys ≡ us ++ x ∷ vs)
 found x [] there = absurd (omega arith)
-found x (y ∷ ys) there = go (matcher_cmp x y) refl (found x ys)
-  where
-    go : (o : Ordering) → matcher_cmp x y ≡ o → (0 < times x ys → (us : List Matcher) × (vs : List Matcher) × (ys ≡ us ++ x ∷ vs)) → (us : List Matcher) × (vs : List Matcher) × (y ∷ ys ≡ us ++ x ∷ vs)
-    go Equal e again = ([], ys, grind (arith, matcher_cmp-IsAntisymmetric x y))
-    go o e again =
-        let (us, vs, is) = again (grind (arith, sum_by-cons)) in
-        (y ∷ us, vs, ap (λ l. y ∷ l) is)
+found x (y ∷ ys) there =
+    elim (cases_Bool (is_eq (matcher_cmp x y))) [
+      | inl same ↦ ([], ys, grind (arith, matcher_cmp-IsAntisymmetric x y))
+      | inr apart ↦ let (us, vs, is) = found x ys (grind (arith, sum_by-cons)) in (y ∷ us, vs, ap (λ l. y ∷ l) is)
+    ]
 
 -- the list has its first matcher
 has_first : (x : Matcher) (xs : List Matcher) → 0 < times x (x ∷ xs)

@@ -22,11 +22,6 @@ any_from p no_items index d at holds = absurd (cc)
 any_from p (item e ds) zero d at holds = grind arith
 any_from p (item e ds) (suc index) d at holds = grind (arith, any_from p ds index d at holds)
 
-any_weaker : (p q : Data → Bool) (ds : Items) → ((d : Data) → p d ≡ true → q d ≡ true) → any_item p ds ≡ true → any_item q ds ≡ true
-any_weaker p q ds weaker e =
-    let (index, d, at, holds) = any_found p ds e in
-    any_from q ds index d at (weaker d holds)
-
 -- an item that is found is in an array
 list_there : (p : Data → Bool) (o : Option Data) → any_item p (list_in o) ≡ true → (list : Items) × (o ≡ Some (array list)) × (any_item p list ≡ true)
 list_there p (Some (array ds)) e = (ds, refl, e)
@@ -62,7 +57,9 @@ root_there whole _ _ (Below above list index d level at is found) = root_there w
 shallower : (most : ℕ) (d : Data) → is_deeper (suc most) d ≡ true → is_deeper most d ≡ true
 unfolding is_deeper
 shallower zero d e = refl
-shallower (suc most) d e = any_weaker (is_deeper (suc most)) (is_deeper most) (list_in (member_of (codes "routes") d)) (shallower most) e
+shallower (suc most) d e =
+    let (index, child, at, holds) = any_found (is_deeper (suc most)) (list_in (member_of (codes "routes") d)) e in
+    any_from (is_deeper most) (list_in (member_of (codes "routes") d)) index child at (shallower most child holds)
 
 much_shallower : (more n most : ℕ) (d : Data) → n ≡ more + most → is_deeper n d ≡ true → is_deeper most d ≡ true
 much_shallower zero n most d is e = grind arith

@@ -1,10 +1,9 @@
 -- The integrations of receivers that are read go by kind, and then by place.
 use Rattle.std.specs.List.{list_all}
-use Rattle.std.specs.Ordering.{match_ordering}
 use Rattle.std.proofs.lemmas.Option.{none-some, same_Some}
-use Rattle.serde_json.specs.Find.{get, get_member, as_object}
+use Rattle.serde_json.specs.Find.{get_member, as_object}
 use Rattle.amr_config.specs.Read.Members.{member_of, unless_null}
-use Rattle.std.proofs.Common.{◌≡◌, inl, inr, ◌⊎◌, ◌≢◌, ℕ, ◌+◌, ◌-◌, Bool, true, false, List, [], ◌∷◌, ◌++◌, length, drop, Option, Some, None, Ok, refl, sym, ap, ◌∙◌, arith, codes, unwrap_or, append-nil, take-append-drop, Ordering, Less, Equal, Greater, Contains}
+use Rattle.std.proofs.Common.{◌≡◌, inl, inr, ◌⊎◌, ◌≢◌, ℕ, ◌+◌, ◌-◌, Bool, true, false, List, [], ◌∷◌, ◌++◌, length, drop, Option, Some, None, Result, Ok, refl, sym, ap, ◌∙◌, arith, codes, unwrap_or, append-nil, take-append-drop, Less, Greater, Contains}
 use Rattle.std.proofs.lemmas.List.Elements.{Contains-append_cases, Contains-append_right}
 use Rattle.std.proofs.lemmas.Cmp.{tied_itself}
 use Rattle.std.proofs.lemmas.Bool.{and_from, and_parts}
@@ -13,13 +12,19 @@ use Rattle.serde_json.specs.Data.{Data, null, array, object, Items, no_items, it
 use Rattle.amr_labels.specs.Labels.{Text, text_cmp, text_cmp-IsAntisymmetric}
 use Rattle.amr_config.specs.declared.stated.receiver.Integration.{Integration}
 use Rattle.amr_config.specs.declared.stated.receiver.Receiver.{Receiver}
-use Rattle.amr_config.specs.Read.ReadReceivers.{is_on_side, kind_key, with_entries}
-use Rattle.amr_config.proofs.ReadLemmas.WalkedParts.{walked_receivers}
+use Rattle.amr_config.specs.Read.ReadReceivers.{is_on_side, kind_key, with_entries, receivers_at}
+use Rattle.amr_config.specs.Read.ReadIntervals.{intervals_at}
+use Rattle.amr_config.specs.Read.Timeout.{timeout_at}
+use Rattle.amr_config.specs.Read.ReadRules.{rules_at}
+use Rattle.amr_config.specs.Read.ReadRoutes.{routes_at}
+use Rattle.amr_config.proofs.ReadLemmas.Readings.{bind_ok}
+use Rattle.amr_config.specs.declared.read.error.Refusal.{Refusal}
 use Rattle.amr_config.specs.declared.stated.stated.Stated.{Stated}
 use Rattle.amr_config.specs.Read.Walking.{walked_at}
 use Rattle.amr_config.specs.Read.Keys.{IsBelow, AreInOrder, HasOrderedKeys, HaveOrderedKeys, AllHaveOrderedKeys}
 use Rattle.amr_config.specs.Read.Order.{are_in_order, goes_before}
 use Rattle.amr_config.specs.Read.Table.{StatesEach, StatesIf, StatesOr, IsListOf, HasAt, IsText, IsIntegration}
+use Rattle.amr_config.proofs.ReadLemmas.ReadKeys.{by_order}
 use Rattle.amr_config.proofs.ReadLemmas.Judged.{told}
 use Rattle.amr_config.proofs.ReadLemmas.JudgedReceivers.{HasEntries, KindFrom, kind_on, KindsFrom, entries_there, SideFrom, judged_receivers, in_with, on_side}
 
@@ -161,17 +166,11 @@ list_in_order : (d : Data) (receivers : List Receiver) → HasOrderedKeys d → 
 list_in_order (array es) receivers order (ds, is, are) = each_in_order 0 ds receivers (rw (← same_Some es ds is) order) are
 list_in_order d receivers order (ds, is, are) = absurd (cc)
 
-at_key : (o : Ordering) (e : Data) (later : Option Data) (d : Data) → match_ordering o later (Some e) later ≡ Some d → (e ≡ d) ⊎ (later ≡ Some d)
-at_key Equal e later d is = inl (same_Some e d is)
-at_key o e later d is = inr is
-
 found_ordered : (key : Text) (ms : Members) (d : Data) → AllHaveOrderedKeys ms → get_member key ms ≡ Some d → HasOrderedKeys d
 found_ordered key no_members d order e = absurd (none-some d e)
 found_ordered key (member k v ms) d order e =
-    elim (at_key (text_cmp key k) v (get_member key ms) d e) [
-      | inl same ↦ rw (← same) order.0
-      | inr later ↦ found_ordered key ms d order.1 later
-    ]
+    by_order (λ (found : Option Data). found ≡ Some d → HasOrderedKeys d) (text_cmp key k) _ _ _
+    (λ is later. found_ordered key ms d order.1 later) (λ is same. rw (← same_Some v d same) order.0) (λ is later. found_ordered key ms d order.1 later) e
 
 present_is : (o : Option Data) (d : Data) → unless_null o ≡ Some d → o ≡ Some d
 present_is (Some null) d e = absurd (none-some d e)
@@ -179,11 +178,8 @@ present_is o d e = e
 
 member_ordered : (key : Text) (d v : Data) → HasOrderedKeys d → member_of key d ≡ Some v → HasOrderedKeys v
 unfolding member_of
-member_ordered key d v order e = go d order (present_is (get key d) v e)
-  where
-    go : (d : Data) → HasOrderedKeys d → get key d ≡ Some v → HasOrderedKeys v
-    go (object ms) order e = found_ordered key ms v order.1 e
-    go d order e = absurd (none-some v e)
+member_ordered key (object ms) v order e = found_ordered key ms v order.1 (present_is (get_member key ms) v e)
+member_ordered key d v order e = absurd (none-some v e)
 
 receivers_in_order : (d : Data) (receivers : List Receiver) → HasOrderedKeys d → StatesOr [] (IsListOf IsOrdered) (codes "receivers") d receivers → AreReceiversInOrder receivers
 receivers_in_order d receivers order (found, states, is) = rw is (go (member_of (codes "receivers") d) refl found states)
@@ -192,6 +188,22 @@ receivers_in_order d receivers order (found, states, is) = rw is (go (member_of 
     go None at None states = refl
     go (Some v) at (Some read) states = list_in_order v read (member_ordered (codes "receivers") d v order at) states
     go o at found states = absurd states
+
+ok_same : (x y : Stated) → ◌≡◌ {A = Result Stated Refusal} (Ok x) (Ok y) → x ≡ y
+ok_same x y e = cc
+
+-- the receivers that were read with a whole configuration
+walked_receivers : (d : Data) (stated : Stated) → (walked_at d).value ≡ Ok stated → (receivers_at d).value ≡ Ok stated.receivers
+unfolding walked_at
+walked_receivers d stated e =
+    let timeout = bind_ok (timeout_at d) _ stated e in
+    let rules = bind_ok (rules_at d) _ stated timeout.2 in
+    let mute = bind_ok (intervals_at (codes "mute_time_intervals") d []) _ stated rules.2 in
+    let receivers = bind_ok (receivers_at d) _ stated mute.2 in
+    let routes = bind_ok (routes_at d) _ stated receivers.2 in
+    let named = bind_ok (intervals_at (codes "time_intervals") d mute.0) _ stated routes.2 in
+    let same = ok_same _ stated named.2 in
+    rw (← same) receivers.1
 
 pub walked_in_order : (d : Data) (stated : Stated) → HasOrderedKeys d → (walked_at d).value ≡ Ok stated → AreReceiversInOrder stated.receivers
 walked_in_order d stated order e =

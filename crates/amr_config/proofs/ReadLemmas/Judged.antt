@@ -22,9 +22,6 @@ first_of_both (Pattern path text ∷ fs) gs = first_of_both fs gs
 pub no_fault_in_both : (fs gs : List Finding) (o : Option (List ℕ)) → first_fault fs ≡ None → first_fault gs ≡ o → first_fault (fs ++ gs) ≡ o
 no_fault_in_both fs gs o e f = grind (arith, first_of_both fs gs)
 
-pub fault_in_first : (fs gs : List Finding) (path : List ℕ) → first_fault fs ≡ Some path → first_fault (fs ++ gs) ≡ Some path
-fault_in_first fs gs path e = grind (arith, first_of_both fs gs)
-
 pub patterns_of_both : (fs gs : List Finding) → first_fault fs ≡ None → patterns_before (fs ++ gs) ≡ patterns_before fs ++ patterns_before gs
 patterns_of_both [] gs e = refl
 patterns_of_both (Fault path ∷ fs) gs e = absurd (cc)
@@ -82,7 +79,7 @@ judged_then part rest fs gs P Q h hs = go part.value h.tells
         }
     go (Err refusal) t =
         record {
-          tells = (t.0, t.1, fault_in_first fs gs t.0 t.2);
+          tells = (t.0, t.1, grind (arith, first_of_both fs gs, t.2));
           met = append-nil part.patterns ∙ h.met ∙ sym (patterns_of_first fs gs t.0 t.2);
         }
 

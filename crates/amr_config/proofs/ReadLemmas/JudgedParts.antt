@@ -13,7 +13,7 @@ use Rattle.amr_config.specs.declared.stated.interval.NamedInterval.{NamedInterva
 use Rattle.amr_config.specs.declared.read.read_intervals.Field.TheVariants.{Weekdays, Months, Years}
 use Rattle.amr_config.specs.Read.Paths.{under, item_path}
 use Rattle.amr_config.specs.Read.Members.{member_of, optional_member, or_faulty, text_at, span_at, text_into, texts_at}
-use Rattle.amr_config.specs.Read.Readings.{give, faulty, items_in_turn}
+use Rattle.amr_config.specs.Read.Readings.{give, faulty, next, items_in_turn}
 use Rattle.amr_config.specs.Read.ReadIntervals.{range_in, day_range_in, range_into, ranges_at, time_of, times_from, time_range_at, time_range_into, times_at, is_utc, location_at, interval_member_at, interval_member_into, interval_members_at, is_taken, new_name_at, interval_at, interval_into, intervals_from, intervals_at, is_defined, name_into, names_at}
 use Rattle.amr_config.specs.Read.Timeout.{timeout_in, timeout_at}
 use Rattle.amr_config.specs.Read.Table.{IsText, IsDuration, IsListOf, StatesEach, StatesIf, States, StatesOr, HasAt, StatesTimeout, IsTime, IsTimeRange, IsRange, IsIntervalMember, IsInterval, IsDefinedName}
@@ -22,21 +22,18 @@ use Rattle.amr_config.proofs.ReadLemmas.Judged.{Judged, by_findings, judged_ok, 
 
 -- ---- texts and durations
 
+judged_spelled : {A : Type 0} (spelled : Text → Option A) (path : List ℕ) (d : Data) → Judged (next (text_at path d) (λ text. or_faulty path (spelled text))) (spelled_found spelled path d) (λ x. (text : Text) × IsText d text × (spelled text ≡ Some x))
+judged_spelled spelled path d =
+    judged_there path (as_str d) (λ text. or_faulty path (spelled text)) (λ o. unless_some path (option_and_then spelled o)) _ refl (λ text is.
+    judged_or_faulty path (spelled text) _ (λ x e. (text, is, e)))
+
 pub judged_span : (path : List ℕ) (d : Data) → Judged (span_at path d) (spelled_found span_of path d) (IsDuration d)
 unfolding span_at
-judged_span path d =
-    judged_there path (as_str d) (λ text. or_faulty path (span_of text)) (λ o. unless_some path (option_and_then span_of o)) (IsDuration d) refl (λ text is.
-    judged_or_faulty path (span_of text) (IsDuration d) (λ span e. (text, is, e)))
+judged_span = judged_spelled span_of
 
 pub judged_texts : (path : List ℕ) (d : Data) → Judged (texts_at path d) (list_found text_found path d) (IsListOf IsText d)
 unfolding texts_at text_into
 judged_texts = judged_list_of text_at text_found IsText judged_text
-
-judged_time : (spelled : List ℕ → Option ℕ) (path : List ℕ) (d : Data) → Judged (time_of spelled path d) (spelled_found spelled path d) (IsTime spelled d)
-unfolding time_of
-judged_time spelled path d =
-    judged_there path (as_str d) (λ text. or_faulty path (spelled text)) (λ o. unless_some path (option_and_then spelled o)) (IsTime spelled d) refl (λ text is.
-    judged_or_faulty path (spelled text) (IsTime spelled d) (λ time e. (text, is, e)))
 
 -- ---- time intervals
 
@@ -44,11 +41,11 @@ time_there : (spelled : Text → Option ℕ) (key : Text) (d : Data) (time : ℕ
 time_there spelled key d time (v, at, (text, is, spells)) = grind arith
 
 judged_time_range : (path : List ℕ) (d : Data) → Judged (time_range_at path d) (time_range_found path d) (IsTimeRange d)
-unfolding time_range_at
+unfolding time_range_at time_of
 judged_time_range path d =
     judged_then _ _ _ _ _ _ (judged_object path d) (λ whole object.
-    judged_then _ _ _ _ _ _ (judged_needed (time_of end_time_at) (spelled_found end_time_at) (IsTime end_time_at) path (codes "end_time") d (judged_time end_time_at _)) (λ end has_end.
-    judged_then _ _ _ _ _ _ (judged_needed (time_of time_at) (spelled_found time_at) (IsTime time_at) path (codes "start_time") d (judged_time time_at _)) (λ start has_start.
+    judged_then _ _ _ _ _ _ (judged_needed (time_of end_time_at) (spelled_found end_time_at) (IsTime end_time_at) path (codes "end_time") d (judged_spelled end_time_at _)) (λ end has_end.
+    judged_then _ _ _ _ _ _ (judged_needed (time_of time_at) (spelled_found time_at) (IsTime time_at) path (codes "start_time") d (judged_spelled time_at _)) (λ start has_start.
     by_findings (times_from path start end) (unless path (nat_lt start end)) _ (IsTimeRange d)
     (sym (ap (λ o. unless path (start_before_end o (time_in end_time_at (codes "end_time") d))) (time_there time_at (codes "start_time") d start has_start) ∙ ap (λ o. unless path (start_before_end (Some start) o)) (time_there end_time_at (codes "end_time") d end has_end)))
     (judged_if (nat_lt start end) (record { start = start; end = end }) path (IsTimeRange d) (λ lt. record { start = has_start; end = has_end; before = ltb→lt start end (rw lt tt) })))))

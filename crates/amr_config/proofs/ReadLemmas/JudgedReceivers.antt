@@ -23,9 +23,8 @@ use Rattle.amr_config.proofs.ReadLemmas.Judged.{Judged, by_findings, judged_ok, 
 said_or_default : (path : List ℕ) (o : Option Data) (said default : Option Bool) → StatesIf IsFlag o said → unless_some path (option_or said default) ≡ unless path (is_some o || is_some default)
 said_or_default path None None None states = refl
 said_or_default path None None (Some b) states = refl
-said_or_default path None (Some x) default states = absurd states
-said_or_default path (Some v) None default states = absurd states
 said_or_default path (Some v) (Some b) default states = refl
+said_or_default path o said default states = absurd states
 
 judged_entry : (kind : Text) (path : List ℕ) (i : ℕ) (d : Data) (integrations : List Integration) → Judged (entry_into kind path i d integrations) (entry_found kind (item_path path i) d) (Adds (IsIntegration kind) i d integrations)
 unfolding entry_into

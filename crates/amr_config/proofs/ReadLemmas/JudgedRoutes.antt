@@ -26,9 +26,8 @@ use Rattle.amr_config.proofs.ReadLemmas.JudgedMatchers.{walk_matchers, walk_rule
 
 grouped : (o : Option Data) (names : Option (List Text)) → StatesIf (IsListOf IsText) o names → StatesIf IsGrouping o (grouping_stated names)
 grouped None None h = tt
-grouped None (Some names) h = absurd h
-grouped (Some v) None h = absurd h
 grouped (Some v) (Some names) h = (names, h, refl)
+grouped o names h = absurd h
 
 -- a route added to those before it
 abbrev pub AddsRoute : Data → Option ℕ → Data → List Route → List Route → Type 0

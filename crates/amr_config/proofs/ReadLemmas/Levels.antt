@@ -10,7 +10,7 @@ use Rattle.amr_config.specs.Read.Readings.{Reading, MayGive, give, items_in_turn
 use Rattle.amr_config.specs.Read.RouteParts.{children_at}
 use Rattle.amr_config.specs.Read.ReadRoutes.{own_into, add_route, child_into}
 use Rattle.amr_config.proofs.ReadLemmas.Readings.{stops_first, stops_later, stops_plain}
-use Rattle.amr_config.proofs.ReadLemmas.Turns.{Ends, ends_past, ends_itself}
+use Rattle.amr_config.proofs.ReadLemmas.Turns.{Ends, ends_past}
 
 pub at_zero : (whole : Data) (left : ℕ) (path : List ℕ) (parent : Option ℕ) (d : Data) (routes : List Route) → left ≡ 0 → (add_route whole left path parent d routes).value ≡ Err (Other TooDeep)
 unfolding add_route
@@ -32,4 +32,4 @@ unfolding add_route
 begins whole zero path parent d routes own children ne g h = absurd (ne refl)
 begins whole (suc left) path parent d routes own children ne g h =
     let same : suc left - 1 ≡ left = omega arith in
-    rw same (ends_past _ _ _ _ (ap (λ (part : Reading _). part.value) h) (ends_past _ _ _ _ g (ends_itself _)))
+    rw same (ends_past _ _ _ _ (ap (λ (part : Reading _). part.value) h) (ends_past _ _ _ _ g (record { reads = λ a e. e; stops = λ error stop. stop })))

@@ -15,7 +15,7 @@ below_trans a b no_members less below = tt
 below_trans a b (member k d ms) less below = (nat_list_cmp_total.trans a b k less below.0, below_trans a b ms less below.1)
 
 -- what is so of each of three, is so of the one that an ordering picks
-by_order : (P : Members → Type 0) (o : Ordering) (x y z : Members) → (o ≡ Less → P x) → (o ≡ Equal → P y) → (o ≡ Greater → P z) → P (match_ordering o x y z)
+pub by_order : {X : Type 0} (P : X → Type 0) (o : Ordering) (x y z : X) → (o ≡ Less → P x) → (o ≡ Equal → P y) → (o ≡ Greater → P z) → P (match_ordering o x y z)
 by_order P Less x y z less equal greater = less refl
 by_order P Equal x y z less equal greater = equal refl
 by_order P Greater x y z less equal greater = greater refl

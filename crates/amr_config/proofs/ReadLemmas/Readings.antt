@@ -1,14 +1,47 @@
--- A walk goes as its parts go.
+-- A walk goes as its parts go. Where a part of a reading fails, the whole fails.
 use Rattle.std.proofs.Common.{◌≡◌, ℕ, List, Option, Some, None, is_some, Result, Ok, Err, true, inl, inr, refl, ap, ◌∙◌, unwrap_or, IsErrAnd}
 use Rattle.std.proofs.lemmas.List.Elements.{Contains-append_left, Contains-append_right}
 use Rattle.serde_json.specs.Data.{Data, Members}
 use Rattle.serde_json.specs.Find.{as_object}
+use Rattle.amr_config.specs.declared.read.error.Refusal.{Refusal}
 use Rattle.amr_config.specs.declared.read.error.ConfigError.{ConfigError}
 use Rattle.amr_config.specs.declared.read.error.ConfigError.TheVariants.{Memory, Refused}
 use Rattle.amr_config.specs.Read.Members.{members_at}
-use Rattle.amr_config.specs.Read.Readings.{Reading, give, next, patterns_after, value_after, MayGive}
-use Rattle.amr_config.specs.Read.Answers.{IsFault, Fails, Stops, Reads, ReadsInto}
-use Rattle.amr_config.proofs.ReadLemmas.Failing.{fails_at}
+use Rattle.amr_config.specs.Read.Readings.{Reading, give, faulty, next, patterns_after, value_after, MayGive}
+use Rattle.amr_config.specs.Read.Answers.{IsFault, Fails, Gives, Stops, Reads, ReadsInto}
+
+-- ---- a part that fails
+
+-- a `?` returns the error of the part that failed
+pub failed : {X Y : Type 0} (view : X → Y) (result : Result X ConfigError) (e : ConfigError) (reading : Reading Y) → IsErrAnd result (λ other. other ≡ e) → Fails e reading → Gives view result reading
+failed view (Ok x) e reading passed h = absurd passed
+failed view (Err other) e reading passed h = rw passed h
+
+pub fails_first : {A B : Type 0} (e : ConfigError) (part : Reading A) (rest : A → Reading B) → Fails e part → Fails e (next part rest)
+unfolding next
+fails_first Memory part rest h = tt
+fails_first (Refused refusal) part rest h = rw h refl
+
+-- past a part that is read
+pub fails_later : {A B : Type 0} (e : ConfigError) (part : Reading A) (rest : A → Reading B) (x : A) → part ≡ give x → Fails e (rest x) → Fails e (next part rest)
+unfolding next
+fails_later e part rest x is h = rw is h
+
+-- at a faulty value
+pub fails_at : (A : Type 0) (e : ConfigError) (path : List ℕ) → IsFault e path → Fails {Y = A} e (faulty path)
+fails_at A Memory path h = tt
+fails_at A (Refused refusal) path h = rw h refl
+
+-- ---- a part that is read, or that stops the walk
+
+-- what was read, was read part by part
+after_ok : {A B : Type 0} (r : Result A Refusal) (f : A → Reading B) (b : B) → value_after r f ≡ Ok b → (a : A) × (r ≡ Ok a) × ((f a).value ≡ Ok b)
+after_ok (Ok a) f b e = (a, refl, e)
+after_ok (Err r) f b e = cc
+
+pub bind_ok : {A B : Type 0} (part : Reading A) (f : A → Reading B) (b : B) → (next part f).value ≡ Ok b → (a : A) × (part.value ≡ Ok a) × ((f a).value ≡ Ok b)
+unfolding next
+bind_ok part f b e = after_ok part.value f b e
 
 some_from : {A : Type 0} (o : Option A) → is_some o ≡ true → (x : A) × (o ≡ Some x)
 some_from None e = cc

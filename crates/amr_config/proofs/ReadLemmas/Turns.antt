@@ -14,9 +14,6 @@ pub record Ends {A : Type 0} (rest whole : Reading A) : Type 0 where
   pub reads : (a : A) → rest.value ≡ Ok a → whole.value ≡ Ok a
   pub stops : (e : ConfigError) → Stops e (MayGive rest) → Stops e (MayGive whole)
 
-pub ends_itself : {A : Type 0} (walk : Reading A) → Ends walk walk
-ends_itself walk = record { reads = λ a h. h; stops = λ e h. h }
-
 -- past its first part
 pub ends_past : {A B : Type 0} (part : Reading A) (rest : A → Reading B) (whole : Reading B) (a : A) → part.value ≡ Ok a → Ends (next part rest) whole → Ends (rest a) whole
 ends_past part rest whole a read ends =

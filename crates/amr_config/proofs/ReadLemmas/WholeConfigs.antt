@@ -14,7 +14,7 @@ use Rattle.amr_config.specs.declared.stated.stated.Stated.{Stated}
 use Rattle.amr_config.specs.Read.Readings.{plain, next}
 use Rattle.amr_config.specs.Read.RouteParts.{is_too_deep}
 use Rattle.amr_config.specs.Read.Walking.{walked_at}
-use Rattle.amr_config.proofs.ReadLemmas.WalkedParts.{bind_ok}
+use Rattle.amr_config.proofs.ReadLemmas.Readings.{bind_ok}
 use Rattle.amr_config.specs.Stated.Config.{Config}
 use Rattle.amr_config.specs.Routing.{parent_of, line_of}
 use Rattle.amr_config.specs.Settled.{stated_config, AreParentsFirst}

@@ -1,8 +1,7 @@
 use Rattle.std.proofs.Common.{refl, sym, ◌∙◌}
 use Rattle.amr_config.specs.Read.Readings.{next}
 use Rattle.amr_config.specs.Read.ReadIntervals.{interval_member_at}
-use Rattle.amr_config.proofs.ReadLemmas.Failing.{fails_first, fails_later, failed}
-use Rattle.amr_config.proofs.ReadLemmas.Readings.{object_there, fails_past_object}
+use Rattle.amr_config.proofs.ReadLemmas.Readings.{fails_first, fails_later, failed, object_there, fails_past_object}
 use Rattle.amr_config.proofs.read.read_intervals.interval_member.Goals as goal
 
 pub returns-in_err-months : goal.returns-in_err-months
