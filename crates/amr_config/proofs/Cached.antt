@@ -11,13 +11,14 @@ use Rattle.amr_config.specs.declared.stated.rule_sides.RuleMatch.{RuleMatch}
 use Rattle.amr_config.specs.Stated.Config.{Config}
 use Rattle.amr_config.specs.Groups.{routing_to_cache, IsCacheOf, IsRoutingOf, AreSides}
 
+-- a map without entries gives nothing
+pub none_given : (cached : Map label_set_cmp (List RuleMatch)) (labels : LabelSet) (found : List RuleMatch) → cached ≡ empty → get cached labels ≡ Some found → ⊥
+none_given cached labels found none at = grind (arith, get-empty {X = List RuleMatch} label_set_cmp labels)
+
 module _ {X : Type 0} (answer : LabelSet → X) where
   -- what a map gives for each label set that it has is the answer
   abbrev pub Gives : Map label_set_cmp X → Type 0
   Gives cached = (labels : LabelSet) (found : X) → get cached labels ≡ Some found → found ≡ answer labels
-
-  pub gives_none : (cached : Map label_set_cmp X) → cached ≡ empty → Gives cached
-  gives_none cached none labels found at = absurd (grind (arith, get-empty {X = X} label_set_cmp labels))
 
   pub gives_more : (cached more : Map label_set_cmp X) (labels : LabelSet) (x : X) → Gives cached → x ≡ answer labels → more ≡ set cached labels (Some x) → Gives more
   gives_more cached more labels x is_cached is shows other found at =

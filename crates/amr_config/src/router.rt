@@ -55,6 +55,7 @@ impl Model for Router {
 
 impl Router {
     /// Takes a configuration, of which nothing is cached yet.
+    #[tactic(auto, using(crate::proofs::Cached::none_given))]
     pub fn new(alloc: Global, config: Config) -> Router
         ensures { result ≡ config }
     {
@@ -139,6 +140,7 @@ impl Router {
     }
 
     /// Forgets the groups and the sides of all label sets. It takes no memory.
+    #[tactic(auto, using(crate::proofs::Cached::none_given))]
     fn forget(&mut self)
         ensures { self.new ≡ self.old }
     {

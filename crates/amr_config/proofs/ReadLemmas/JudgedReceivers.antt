@@ -1,6 +1,7 @@
 -- What is read of a receiver states what is there, and a refusal is that of the first fault.
 use Rattle.std.proofs.Common.{◌≡◌, ℕ, zero, suc, ◌+◌, Bool, true, false, not, ◌||◌, if◌then◌else◌, List, [], ◌∷◌, ◌++◌, length, Option, Some, None, inl, inr, ◌⊎◌, refl, sym, ap, subst, ◌∙◌, arith, codes, unwrap_or, is_some, ◌==◌, Contains, IsPermutation, is_gt}
 use Rattle.std.specs.Option.{option_or, option_map_or}
+use Rattle.std.proofs.lemmas.Bool.{cond_both}
 use Rattle.std.proofs.lemmas.List.Elements.{Contains-append_left, Contains-append_right, Contains-append_cases}
 use Rattle.std.proofs.lemmas.Option.{none-some, same_Some}
 use Rattle.serde_json.specs.Data.{Data, null, Items, no_items, item, Members, no_members, member}
@@ -102,10 +103,8 @@ record IsOfMember (ms : Members) (x : Integration) : Type 0 where
 moved : (xs : List Integration) (kind : Text) (entries : List Integration) → IsPermutation (xs ++ entries) (with_entries xs kind entries)
 moved [] kind entries = IsPermutation-refl entries
 moved (x ∷ xs) kind entries =
-    elim (is_gt (text_cmp x.kind kind)) as (λ b. IsPermutation (x ∷ xs ++ entries) (if b then entries ++ x ∷ xs else x ∷ with_entries xs kind entries)) [
-      | true ↦ IsPermutation-append_comm (x ∷ xs) entries
-      | false ↦ IsPermutation-cons x (xs ++ entries) (with_entries xs kind entries) (moved xs kind entries)
-    ]
+    cond_both (is_gt (text_cmp x.kind kind)) _ _ (IsPermutation (x ∷ xs ++ entries)) (λ e. IsPermutation-append_comm (x ∷ xs) entries) (λ e.
+    IsPermutation-cons x (xs ++ entries) (with_entries xs kind entries) (moved xs kind entries))
 
 pub in_with : (xs : List Integration) (kind : Text) (entries : List Integration) (x : Integration) → Contains (with_entries xs kind entries) x → Contains xs x ⊎ Contains entries x
 in_with xs kind entries x c = Contains-append_cases xs entries x (Contains-permutation _ _ x (IsPermutation-sym _ _ (moved xs kind entries)) c)
