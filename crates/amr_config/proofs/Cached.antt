@@ -9,21 +9,19 @@ use Rattle.amr_labels.specs.Map.{Map, empty, get, set, get-empty, get-set}
 use Rattle.amr_config.specs.declared.router.CachedRouting.{CachedRouting}
 use Rattle.amr_config.specs.declared.stated.rule_sides.RuleMatch.{RuleMatch}
 use Rattle.amr_config.specs.Stated.Config.{Config}
+use Rattle.amr_config.specs.Stated.RuleMatches.{rule_matches}
 use Rattle.amr_config.specs.Groups.{routing_to_cache, IsCacheOf, IsRoutingOf, AreSides}
 
 -- a map without entries gives nothing
 pub none_given : (cached : Map label_set_cmp (List RuleMatch)) (labels : LabelSet) (found : List RuleMatch) → cached ≡ empty → get cached labels ≡ Some found → ⊥
 none_given cached labels found none at = grind (arith, get-empty {X = List RuleMatch} label_set_cmp labels)
 
-module _ {X : Type 0} (answer : LabelSet → X) where
-  -- what a map gives for each label set that it has is the answer
-  abbrev pub Gives : Map label_set_cmp X → Type 0
-  Gives cached = (labels : LabelSet) (found : X) → get cached labels ≡ Some found → found ≡ answer labels
-
-  pub gives_more : (cached more : Map label_set_cmp X) (labels : LabelSet) (x : X) → Gives cached → x ≡ answer labels → more ≡ set cached labels (Some x) → Gives more
-  gives_more cached more labels x is_cached is shows other found at =
-      let same : eq_by_cmp label_set_cmp other labels ≡ true → other ≡ labels = tells_apart label_set_cmp-IsAntisymmetric other labels in
-      grind (arith, get-set label_set_cmp_total cached labels (Some x) other, is_cached other found)
+-- one more label set, with the sides of the rules that it is on
+pub sides_more : (config : Config) (sides more : Map label_set_cmp (List RuleMatch)) (labels other : LabelSet) (x found : List RuleMatch) → AreSides config sides → x ≡ rule_matches labels config.rules
+    → more ≡ set sides labels (Some x) → get more other ≡ Some found → found ≡ rule_matches other config.rules
+sides_more config sides more labels other x found are is shows at =
+    let same : eq_by_cmp label_set_cmp other labels ≡ true → other ≡ labels = tells_apart label_set_cmp-IsAntisymmetric other labels in
+    grind (arith, get-set label_set_cmp_total sides labels (Some x) other, are other found)
 
 -- what is cached at a place is so under any configuration that routes alike
 same_routing : (here there : Config) → ((labels : LabelSet) → routing_to_cache there labels ≡ routing_to_cache here labels) → (place : Option CachedRouting) → IsRoutingOf there place → IsRoutingOf here place

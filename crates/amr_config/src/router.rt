@@ -228,6 +228,7 @@ impl Router {
     }
 
     /// Caches which sides of the inhibition rules these labels are on.
+    #[tactic(auto, using(crate::proofs::Cached::sides_more))]
     fn cache_sides(
         &mut self,
         kept: Labels,
