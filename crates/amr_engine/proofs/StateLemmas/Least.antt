@@ -76,10 +76,7 @@ sooner a b lt = grind (arith, nat_cmp_is a.moment b.moment Less lt)
 
 -- of one moment and kind, a lesser name is first
 pub alike : (a b : Due) → a.moment ≡ b.moment → a.kind ≡ b.kind → is_gt (ordering_then (nat_cmp a.route b.route) (label_set_cmp a.labels b.labels)) ≡ false → is_gt (due_cmp a b) ≡ false
-alike a b moment kind name =
-    let moments : nat_cmp a.moment b.moment ≡ Equal = ap (nat_cmp a.moment) (sym moment) ∙ tied_itself nat_cmp_total a.moment in
-    let kinds : nat_cmp (kind_rank a.kind) (kind_rank b.kind) ≡ Equal = ap (λ k. nat_cmp (kind_rank a.kind) (kind_rank k)) (sym kind) ∙ tied_itself nat_cmp_total (kind_rank a.kind) in
-    (λ i. is_gt (ordering_then (moments i) (ordering_then (kinds i) (ordering_then (nat_cmp a.route b.route) (label_set_cmp a.labels b.labels))))) ∙ name
+alike a b moment kind name = grind (arith, tied_itself nat_cmp_total a.moment, tied_itself nat_cmp_total (kind_rank a.kind))
 
 -- of one moment, an earlier kind is first
 by_kind : (a b : Due) → a.moment ≤ b.moment → kind_rank a.kind < kind_rank b.kind → is_gt (due_cmp a b) ≡ false
@@ -111,10 +108,10 @@ kinds : (k : Kind) → IsOf AlertRemoval k ⊎ (IsOf GroupRemoval k ⊎ IsOf Gro
 kinds k = grind arith
 
 removals_first : (j k : Kind) → IsOf GroupRemoval j → IsOf GroupFlush k → kind_rank j < kind_rank k
-removals_first j k e f = omega (arith, ap kind_rank e, ap kind_rank f)
+removals_first j k e f = grind arith
 
 alerts_first : (j k : Kind) → IsOf AlertRemoval j → IsOf GroupRemoval k ⊎ IsOf GroupFlush k → kind_rank j < kind_rank k
-alerts_first j k e = elim [ inl f ↦ omega (arith, ap kind_rank e, ap kind_rank f) | inr f ↦ omega (arith, ap kind_rank e, ap kind_rank f) ]
+alerts_first j k e f = grind arith
 
 -- the least is the earlier of the first timers of each kind
 pub first_of_kinds : (dues : List Due) (x y z : Option Due) → IsFirstOfKind AlertRemoval dues x → IsFirstOfKind GroupRemoval dues y → IsFirstOfKind GroupFlush dues z → least_due dues ≡ earlier x (earlier y z)

@@ -1,4 +1,4 @@
--- An alert that is placed on a route: first its copy, then the clock of its group.
+-- Putting a value where it is, and the groups that take an alert.
 use Rattle.std.proofs.Common.{[], ◌≡◌, ℕ, List, ◌∷◌, Option, Some, map, option_map, length, slice_get, Ordering, ap, sym, refl, ◌∙◌, arith}
 use Rattle.std.specs.Cmp.{IsTotalOrder}
 use Rattle.std.specs.FinMap.{IsAntisymmetric}
@@ -15,17 +15,6 @@ use Rattle.amr_engine.specs.declared.state.notification.GroupTimer.{GroupTimer}
 use Rattle.amr_config.specs.RouteLabels.{on_route}
 use Rattle.amr_engine.specs.State.State.{State, group_key, timer_with, insert_into_group}
 use Rattle.std.proofs.lemmas.Map.Views.{tells_apart}
-
-pub placed : (s copied : State) (labels : LabelSet) (alert copy : Alert) (route : ℕ) (group route_labels : RouteLabels) (timer : GroupTimer)
-    → group ≡ group_key s.config (on_route route labels) → route_labels ≡ on_route route labels → copy ≡ alert
-    → timer ≡ timer_with s.moment (group_wait_of s.config route) alert (get s.timers group)
-    → copied ≡ record s { placements = insert s.placements route_labels copy }
-    → record copied { timers = insert copied.timers group timer } ≡ insert_into_group labels alert s route
-placed s copied labels alert copy route group route_labels timer grouped at same reset is =
-    let by : timer ≡ timer_with s.moment (group_wait_of s.config route) alert (get s.timers (group_key s.config (on_route route labels))) =
-    reset ∙ ap (λ (g : RouteLabels). timer_with s.moment (group_wait_of s.config route) alert (get s.timers g)) grouped in
-    ap (λ (x : State). record x { timers = insert x.timers group timer }) is
-    ∙ (λ i. record s { placements = insert s.placements (at i) (same i); timers = insert s.timers (grouped i) (by i) })
 
 -- putting the value of a key under that key changes nothing
 pub put_as_it_is : {K X : Type 0} {R : K → K → Ordering} (o : IsTotalOrder R) → IsAntisymmetric R → (m : Map R X) (k : K) (v : X) → get m k ≡ Some v → insert m k v ≡ m

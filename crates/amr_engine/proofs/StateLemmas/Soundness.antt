@@ -25,12 +25,7 @@ found x o e = grind arith
 -- ---- places
 
 sound-more : (a b : Tables) → MorePlaces a b → (e : Change) → IsSound a e → IsSound b e
-sound-more a b more (OfAlert labels alert) h = more.alerts labels h
-sound-more a b more (OfSilence id silence) h = more.silences id h
-sound-more a b more (OfMember member alert) h = more.placements member h
-sound-more a b more (OfTimer group timer) h = more.timers group h
-sound-more a b more (OfLog key entry) h = more.log key h
-sound-more a b more e h = h
+sound-more a b more e h = grind (arith, more.alerts, more.silences, more.placements, more.timers, more.log)
 
 with_roster-more : (a b : Tables) → MorePlaces a b → (e : Change) → MorePlaces (with_roster a e) (with_roster b e)
 with_roster-more a b more (OfRoster roster) = record { alerts = more.alerts; silences = more.silences; placements = λ k h. h; timers = λ k h. h; log = more.log }
@@ -76,10 +71,6 @@ sound-none es t none = subst (λ l. AreSound l t) (sym none) tt
 abbrev pub joined : List (List Change) → List Change
 joined = flat_map (λ closed. closed)
 
--- the open record is closed
-joined-closed : (rs : List (List Change)) (r : List Change) → joined (rs ++ r ∷ []) ++ [] ≡ joined rs ++ r
-joined-closed rs r = append-nil (joined (rs ++ r ∷ [])) ∙ flat_map-append (λ closed. closed) rs (r ∷ []) ∙ ap (λ last. joined rs ++ last) (append-nil r)
-
 -- an entry is appended to the open one
 joined-push : (rs : List (List Change)) (r : List Change) (e : Change) → (joined rs ++ r) ++ e ∷ [] ≡ joined rs ++ (r ++ e ∷ [])
 joined-push rs r e = append_assoc (joined rs) r (e ∷ [])
@@ -100,16 +91,6 @@ kept_pushed a b e kept more moment closed current sound = record {
   sound = subst (λ es. AreSound es b.tables) (joined-push a.journal.closed a.journal.current e ∙ sym (λ i. joined (closed i) ++ current i))
       (sound-push (entries_of a) e b.tables (all-more (entries_of a) a.tables (with_roster b.tables e) more kept.sound) sound);
 }
-
--- the open record is closed
-pub kept_closed : (a : Inside) (t : Tables) (j : Records Change) → IsKept a → t ≡ a.tables → j.closed ≡ a.journal.closed ++ a.journal.current ∷ [] → j.current ≡ [] → IsKept (record a { tables = t; journal = j })
-kept_closed a t j kept same closed current = subst (λ u. IsKept (record a { tables = u; journal = j })) (sym same)
-    (kept_still a (record a { journal = j }) kept (still a.tables a.tables) kept.moment ((λ i. joined (closed i) ++ current i) ∙ joined-closed a.journal.closed a.journal.current))
-
--- the last record is the open one again
-pub kept_reopened : (a : Inside) (t : Tables) (j : Records Change) → IsKept a → t ≡ a.tables → a.journal.closed ≡ j.closed ++ j.current ∷ [] → a.journal.current ≡ [] → IsKept (record a { tables = t; journal = j })
-kept_reopened a t j kept same closed current = subst (λ u. IsKept (record a { tables = u; journal = j })) (sym same)
-    (kept_still a (record a { journal = j }) kept (still a.tables a.tables) kept.moment (sym ((λ i. joined (closed i) ++ current i) ∙ joined-closed j.closed j.current)))
 
 -- the last entry of the open record, and those before it
 last_entry : (a : Inside) (es : List Change) (e : Change) → IsKept a → a.journal.current ≡ es ++ e ∷ [] → AreSound (joined a.journal.closed ++ es) (with_roster a.tables e) × IsSound a.tables e
@@ -161,22 +142,12 @@ more_still a b c one two = grind arith
 
 -- the roster that is displaced leads back to the places of before
 more_back : (a b : Tables) (e : Change) → MorePlaces (with_roster a e) b → MorePlaces a (with_roster b (change_back a e))
-more_back a b (OfRoster roster) more = record { alerts = more.alerts; silences = more.silences; placements = λ k h. h; timers = λ k h. h; log = more.log }
-more_back a b e more = more
-
-placed : {K V : Type 0} (R : K → K → Ordering) (t : Numbered K V) (k : K) (n : ℕ) → number_of R t k ≡ Some n → IsTrue (has_place R t k)
-unfolding has_place
-placed R t k n at = ap is_some at
+more_back a b e more = grind arith
 
 -- that place is there
 sound_back : (t : Tables) (e : Change) (n : ℕ) → t.moment ≤ latest_read → IsPlaceOf t e n → IsSound t (change_back t e)
-sound_back t (OfMoment moment) n late h = late
-sound_back t (OfAlert labels alert) n late h = placed label_set_cmp t.alerts labels n h
-sound_back t (OfSilence id silence) n late h = placed nat_cmp t.silences id n h
-sound_back t (OfMember member alert) n late h = placed route_labels_cmp t.roster.placements member n h
-sound_back t (OfTimer group timer) n late h = placed route_labels_cmp t.roster.timers group n h
-sound_back t (OfLog key entry) n late h = placed log_key_cmp t.log key n h
-sound_back t e n late h = tt
+unfolding has_place
+sound_back t e n late h = grind arith
 
 -- whether a roster can be put back doesn't depend on the present one
 sound_anyway : (t : Tables) (e : Change) → IsSound (with_roster t e) e → IsSound t e

@@ -32,13 +32,10 @@ put_back-push (first ∷ rest) last s = ap (λ (x : State). after_change x first
 
 -- a change of one place is put back by the value that the place had
 pub put_back-change : (t : Tables) (change : Change) → IsAllowed change → after_change (after_change (shown_by t) change) (change_back t change) ≡ shown_by t
-put_back-change t (OfAlert labels alert) h = ap (λ (m : Alerts). record (shown_by t) { alerts = m }) (set-back label_set_cmp_total label_set_cmp-IsAntisymmetric (shown_by t).alerts labels alert)
-put_back-change t (OfSilence id silence) h = ap (λ (m : Silences). record (shown_by t) { silences = m }) (set-back nat_cmp_total nat_cmp-IsAntisymmetric (shown_by t).silences id silence)
-put_back-change t (OfMember member alert) h = ap (λ (m : Map route_labels_cmp Alert). record (shown_by t) { placements = m }) (set-back route_labels_cmp_total route_labels_cmp-IsAntisymmetric (shown_by t).placements member alert)
-put_back-change t (OfTimer group timer) h = ap (λ (m : Map route_labels_cmp GroupTimer). record (shown_by t) { timers = m }) (set-back route_labels_cmp_total route_labels_cmp-IsAntisymmetric (shown_by t).timers group timer)
-put_back-change t (OfLog key entry) h = ap (λ (m : Map log_key_cmp LogEntry). record (shown_by t) { log = m }) (set-back log_key_cmp_total log_key_cmp-IsAntisymmetric (shown_by t).log key entry)
-put_back-change t (OfNotes count) h = absurd h
-put_back-change t change h = refl
+put_back-change t change h =
+    let s = shown_by t in
+    grind (arith, set-back label_set_cmp_total label_set_cmp-IsAntisymmetric s.alerts, set-back nat_cmp_total nat_cmp-IsAntisymmetric s.silences, set-back route_labels_cmp_total route_labels_cmp-IsAntisymmetric s.placements,
+    set-back route_labels_cmp_total route_labels_cmp-IsAntisymmetric s.timers, set-back log_key_cmp_total log_key_cmp-IsAntisymmetric s.log)
 
 -- so is a notification that is appended
 pub put_back-notification : (s : State) (notification : Notification) → after_change (record s { notes = s.notes ++ notification ∷ [] }) (OfNotes (length s.notes)) ≡ s

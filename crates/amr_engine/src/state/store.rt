@@ -145,6 +145,7 @@ impl Store {
     }
 
     /// Drops all records, so that no event can be undone.
+    #[tactic(auto, using(crate::proofs::StateLemmas::Soundness::kept_forgotten))]
     pub fn forget(&mut self)
         ensures state { self.new.state ≡ self.old.state }
         ensures current { self.new.current ≡ self.old.current }
@@ -351,6 +352,7 @@ impl Store {
 
     /// Makes a change, and enters the one that leads back into the open record.
     #[inline(always)]
+    #[tactic(auto, using(crate::proofs::StateLemmas::Soundness::kept_roomier, crate::proofs::StateLemmas::Soundness::kept_put, crate::proofs::StateLemmas::Soundness::undone_put))]
     pub fn change(&mut self, change: Change) -> Result<(), AllocError>
         requires { IsAllowed change }
         ensures ok { OnOk result (self.new.state ≡ after_change self.old.state change) }

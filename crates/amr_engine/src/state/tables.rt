@@ -144,6 +144,7 @@ fn place_log(log: &mut Keyed<LogKey, Shared<LogEntry>>, key: &LogKey) -> Result<
 }
 
 /// Returns the number of a key that has a place.
+#[tactic(auto, unfolding(amr_tables::specs::Numbered::has_place))]
 fn number_in<K: Key + Drop, V: Drop>(table: &Keyed<K, V>, key: &K) -> usize
     requires { IsTrue (has_place K.cmp table.now key.now) }
     ensures { number_of K.cmp table.now key.now ≡ Some result }

@@ -13,8 +13,7 @@ use Rattle.amr_engine.proofs.state.alert_table.AlertRemovals.first.Goals as goal
 pub returns-in_err-first : goal.returns-in_err-first
 returns-in_err-first c = λ timers.
     let a = c.args.self.alerts.now in
-    subst (λ (r : Option Pending). IsFirstOfKind AlertRemoval (dues_of (map_of label_set_cmp a) timers) (option_map due_of r)) (sym c.from_residual.ensures)
-    (no_alert (map_of label_set_cmp a) timers (no_moment label_set_cmp_total label_set_cmp-IsAntisymmetric alert_moment a refl c.requires.numbering (c.in_err-first.ensures.none (rank_of-total label_set_cmp_total a))))
+    rw c.from_residual.ensures (no_alert (map_of label_set_cmp a) timers (no_moment label_set_cmp_total label_set_cmp-IsAntisymmetric alert_moment a refl c.requires.numbering (c.in_err-first.ensures.none (rank_of-total label_set_cmp_total a))))
 
 pub returns-in_err-labels : goal.returns-in_err-labels
 returns-in_err-labels c = λ timers.

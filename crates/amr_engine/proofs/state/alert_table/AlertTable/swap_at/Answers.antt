@@ -8,10 +8,7 @@ use Rattle.amr_engine.proofs.StateLemmas.Scheduling.{scheduled_set, ordered_befo
 use Rattle.amr_engine.proofs.state.alert_table.AlertTable.swap_at.Goals as goal
 
 pub swap_at-requires : goal.swap_at-requires
-swap_at-requires c = subst (λ (v : Numbered LabelSet Alert). IsNumber label_set_cmp v c.args.number) (sym c.self.view_is) c.requires
-
-pub update-requires-clause-room : goal.update-requires-clause-room
-update-requires-clause-room c = c.self.invariant.0.removed.room c.requires.0 c.args.number (ap (λ (v : Numbered LabelSet Alert). number_of label_set_cmp v c.requires.0) c.self.view_is ∙ c.requires.1)
+swap_at-requires c = rw c.self.view_is c.requires
 
 pub update-requires-clause-kept : goal.update-requires-clause-kept
 update-requires-clause-kept c =
@@ -31,12 +28,3 @@ invariant_of-self c =
       },
       arrived_same t.alerts u t.sources c.self.invariant.1 c.swap_at.ensures.places,
     )
-
-pub returns-clause-former : goal.returns-clause-former
-returns-clause-former c = subst (λ (v : Numbered LabelSet Alert). IsValueOf label_set_cmp v c.args.number c.swap_at.new.value) c.self.view_is c.swap_at.ensures.former
-
-pub returns-clause-shown : goal.returns-clause-shown
-returns-clause-shown c = subst (λ (v : Numbered LabelSet Alert). IsSetAt label_set_cmp v c.args.number c.args.alert.now c.swap_at.new.self) c.self.view_is c.swap_at.ensures.shown
-
-pub returns-clause-places : goal.returns-clause-places
-returns-clause-places c = subst (λ (v : Numbered LabelSet Alert). SamePlaces label_set_cmp v c.swap_at.new.self) c.self.view_is c.swap_at.ensures.places

@@ -13,8 +13,7 @@ pub returns-in_err-first : goal.returns-in_err-first
 returns-in_err-first c = λ alerts.
     let t = c.args.self.timers.now in
     let kind = c.args.self.kind in
-    subst (λ (r : Option Pending). IsFirstOfKind kind (dues_of alerts (map_of route_labels_cmp t)) (option_map due_of r)) (sym c.from_residual.ensures)
-    (no_group alerts (map_of route_labels_cmp t) kind c.requires.group
+    rw c.from_residual.ensures (no_group alerts (map_of route_labels_cmp t) kind c.requires.group
     (no_moment route_labels_cmp_total route_labels_cmp-IsAntisymmetric (group_moment kind) t (group_none kind) c.requires.numbering (c.in_err-first.ensures.none (rank_of-total route_labels_cmp_total t))))
 
 pub returns-in_err-group : goal.returns-in_err-group

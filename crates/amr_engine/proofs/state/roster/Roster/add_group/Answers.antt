@@ -9,9 +9,6 @@ use Rattle.amr_engine.proofs.StateLemmas.Scheduling.{scheduled_same, scheduled_r
 use Rattle.amr_engine.proofs.state.roster.Roster.add_group.Goals.{After-reserve_groups, After-reserve, After-reserve-2}
 use Rattle.amr_engine.proofs.state.roster.Roster.add_group.Goals as goal
 
-pub reserve_groups-requires : goal.reserve_groups-requires
-reserve_groups-requires c = omega (arith, c.in_ok-count.ensures.count, c.self.invariant.0.groups)
-
 -- there is room for the members and for the moments of the group
 roomy : (c : After-reserve_groups) → IsGrouped c.self.inside.config c.self.inside.placements c.self.inside.timers c.reserve_groups.new.self
 roomy c =
@@ -52,7 +49,7 @@ invariant_of-self-in_err-number c =
     )
 
 pub returns-in_err-number-clause-places : goal.returns-in_err-number-clause-places
-returns-in_err-number-clause-places c = λ other h. c.make_place.ensures.places other (subst (λ (v : Rostered). IsTrue (has_place route_labels_cmp v.timers other)) (sym c.self.view_is) h)
+returns-in_err-number-clause-places c = rw (← c.self.view_is) c.make_place.ensures.places
 
 pub invariant_of-self-2 : goal.invariant_of-self-2
 invariant_of-self-2 c =
@@ -72,4 +69,4 @@ invariant_of-self-2 c =
     )
 
 pub returns-clause-places : goal.returns-clause-places
-returns-clause-places c = λ other h. c.make_place.ensures.places other (subst (λ (v : Rostered). IsTrue (has_place route_labels_cmp v.timers other)) (sym c.self.view_is) h)
+returns-clause-places c = rw (← c.self.view_is) c.make_place.ensures.places

@@ -7,12 +7,6 @@ use Rattle.amr_engine.proofs.StateLemmas.Rostering.{grouped_same, grouped_placed
 use Rattle.amr_engine.proofs.StateLemmas.Scheduling.{unplaced}
 use Rattle.amr_engine.proofs.state.roster.Roster.add_member.Goals as goal
 
-pub reserve-requires : goal.reserve-requires
-reserve-requires c =
-    let r = c.self.inside in
-    let home = ap (λ (v : Rostered). number_of route_labels_cmp v.timers (group_key v.config c.args.member.now)) c.self.view_is ∙ c.requires.home in
-    omega (arith, c.self.invariant.0.groups, c.self.invariant.1.numbering.within (group_key r.config c.args.member.now) c.args.home home)
-
 pub invariant_of-self : goal.invariant_of-self
 invariant_of-self c =
     let r = c.self.inside in
@@ -27,7 +21,7 @@ invariant_of-self-in_err-number c =
     )
 
 pub returns-in_err-number-clause-places : goal.returns-in_err-number-clause-places
-returns-in_err-number-clause-places c = λ other h. c.make_place.ensures.places other (subst (λ (v : Rostered). IsTrue (has_place route_labels_cmp v.placements other)) (sym c.self.view_is) h)
+returns-in_err-number-clause-places c = rw (← c.self.view_is) c.make_place.ensures.places
 
 pub invariant_of-self-2 : goal.invariant_of-self-2
 invariant_of-self-2 c =
@@ -46,4 +40,4 @@ invariant_of-self-2 c =
     )
 
 pub returns-clause-places : goal.returns-clause-places
-returns-clause-places c = λ other h. c.make_place.ensures.places other (subst (λ (v : Rostered). IsTrue (has_place route_labels_cmp v.placements other)) (sym c.self.view_is) h)
+returns-clause-places c = rw (← c.self.view_is) c.make_place.ensures.places

@@ -6,15 +6,8 @@ use Rattle.amr_engine.specs.State.Rostered.{Rostered}
 use Rattle.amr_engine.proofs.StateLemmas.Rostering.{grouped_set}
 use Rattle.amr_engine.proofs.state.roster.Roster.swap_member.Goals as goal
 
-pub set-requires : goal.set-requires
-set-requires c =
-    let r = c.self.inside in
-    let key = c.requires.0 in
-    let less = c.self.invariant.0.numbering.within key c.args.number (ap (λ (t : Rostered). number_of route_labels_cmp t.placements key) c.self.view_is ∙ c.requires.1) in
-    omega (arith, less, c.self.invariant.0.homes)
-
 pub swap_at-requires : goal.swap_at-requires
-swap_at-requires c = subst (λ (v : Rostered). IsNumber route_labels_cmp v.placements c.args.number) (sym c.self.view_is) c.requires
+swap_at-requires c = rw (← c.self.view_is) at c.requires
 
 pub invariant_of-self : goal.invariant_of-self
 invariant_of-self c =
@@ -27,11 +20,8 @@ invariant_of-self c =
       c.self.invariant.1,
     )
 
-pub returns-clause-former : goal.returns-clause-former
-returns-clause-former c = subst (λ (v : Rostered). IsValueOf route_labels_cmp v.placements c.args.number c.swap_at.new.value) c.self.view_is c.swap_at.ensures.former
-
 pub returns-clause-shown : goal.returns-clause-shown
-returns-clause-shown c = subst (λ (v : Rostered). IsSetAt route_labels_cmp v.placements c.args.number c.args.alert.now c.swap_at.new.self) c.self.view_is c.swap_at.ensures.shown
+returns-clause-shown c = rw (← c.self.view_is) c.swap_at.ensures.shown
 
 pub returns-clause-places : goal.returns-clause-places
-returns-clause-places c = subst (λ (v : Rostered). SamePlaces route_labels_cmp v.placements c.swap_at.new.self) c.self.view_is c.swap_at.ensures.places
+returns-clause-places c = rw (← c.self.view_is) c.swap_at.ensures.places

@@ -9,13 +9,7 @@ use Rattle.amr_engine.proofs.StateLemmas.Scheduling.{scheduled_set, ordered_befo
 use Rattle.amr_engine.proofs.state.roster.Roster.swap_timer.Goals as goal
 
 pub swap_at-requires : goal.swap_at-requires
-swap_at-requires c = subst (λ (v : Rostered). IsNumber route_labels_cmp v.timers c.args.number) (sym c.self.view_is) c.requires
-
-pub update-requires-clause-room : goal.update-requires-clause-room
-update-requires-clause-room c = c.self.invariant.1.flushed.room c.requires.0 c.args.number (ap (λ (v : Rostered). number_of route_labels_cmp v.timers c.requires.0) c.self.view_is ∙ c.requires.1)
-
-pub update-requires-2-clause-room : goal.update-requires-2-clause-room
-update-requires-2-clause-room c = c.self.invariant.1.removed.room c.requires.0 c.args.number (ap (λ (v : Rostered). number_of route_labels_cmp v.timers c.requires.0) c.self.view_is ∙ c.requires.1)
+swap_at-requires c = rw (← c.self.view_is) at c.requires
 
 pub update-requires-clause-kept : goal.update-requires-clause-kept
 update-requires-clause-kept c =
@@ -41,11 +35,5 @@ invariant_of-self c =
       },
     )
 
-pub returns-clause-former : goal.returns-clause-former
-returns-clause-former c = subst (λ (v : Rostered). IsValueOf route_labels_cmp v.timers c.args.number c.swap_at.new.value) c.self.view_is c.swap_at.ensures.former
-
-pub returns-clause-shown : goal.returns-clause-shown
-returns-clause-shown c = subst (λ (v : Rostered). IsSetAt route_labels_cmp v.timers c.args.number c.args.timer.now c.swap_at.new.self) c.self.view_is c.swap_at.ensures.shown
-
 pub returns-clause-places : goal.returns-clause-places
-returns-clause-places c = subst (λ (v : Rostered). SamePlaces route_labels_cmp v.timers c.swap_at.new.self) c.self.view_is c.swap_at.ensures.places
+returns-clause-places c = rw (← c.self.view_is) c.swap_at.ensures.places

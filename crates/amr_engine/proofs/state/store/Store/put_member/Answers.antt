@@ -6,9 +6,6 @@ use Rattle.amr_engine.specs.State.Kept.{Kept, before_open_record}
 use Rattle.amr_engine.proofs.StateLemmas.Soundness.{same_state, placed_first, kept_roomier, kept_put, undone_put}
 use Rattle.amr_engine.proofs.state.store.Store.put_member.Goals as goal
 
-pub place_in_group-requires : goal.place_in_group-requires
-place_in_group-requires c = c.requires ∙ ap (λ (k : Kept). group_key k.state.config c.args.member) (sym c.self.view_is)
-
 pub invariant_of-self : goal.invariant_of-self
 invariant_of-self c =
     let placed = c.place_in_group.ensures in
@@ -37,11 +34,3 @@ returns-clause-kept c =
     undone_put a c.make_room.new.tables c.enter.new.tables c.make_room.new.journal c.enter.new.journal (OfMember c.args.member (Some c.args.alert))
     (placed_first a.tables c.place_in_group.new.self c.make_room.new.tables a.journal c.make_room.new.journal placed.values placed.places c.make_room.ensures.roomier) tt
     c.enter.ensures.state c.enter.ensures.entered ∙ ap before_open_record c.self.view_is
-
-pub returns-clause-timer : goal.returns-clause-timer
-returns-clause-timer c =
-    let member = c.args.member in
-    let placed = c.place_in_group.ensures in
-    c.group_timer_of-timer.ensures member c.in_ok-number.ensures.number
-    ∙ ap (λ (s : State). get s.timers (group_key s.config member)) (same_state c.self.inside.tables c.place_in_group.new.self placed.values)
-    ∙ ap (λ (k : Kept). get k.state.timers (group_key k.state.config member)) c.self.view_is ∙ ap (get c.args.self.now.state.timers) (sym c.requires)

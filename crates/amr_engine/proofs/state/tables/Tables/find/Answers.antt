@@ -4,13 +4,10 @@ use Rattle.amr_config.specs.RouteLabels.{route_labels_cmp}
 use Rattle.amr_engine.proofs.state.tables.Tables.find.Goals as goal
 
 pub returns-in-OfMember : goal.returns-in-OfMember
-returns-in-OfMember c = rw c.in-OfMember.is (ap (λ t. number_of route_labels_cmp t c.in-OfMember.member) (sym c.placements.ensures) ∙ c.number_in-in-OfMember.ensures)
+returns-in-OfMember c = rw (c.in-OfMember.is, ← c.placements.ensures) c.number_in-in-OfMember.ensures
 
 pub returns-in-OfTimer : goal.returns-in-OfTimer
-returns-in-OfTimer c = rw c.in-OfTimer.is (ap (λ t. number_of route_labels_cmp t c.in-OfTimer.group) (sym c.timers.ensures) ∙ c.number_in-in-OfTimer.ensures)
-
-pub returns-in-OfSilence : goal.returns-in-OfSilence
-returns-in-OfSilence c = rw c.in-OfSilence.is (ap (λ t. number_of nat_cmp t c.in-OfSilence.id) (sym c.silences.ensures) ∙ c.number_in-in-OfSilence.ensures)
+returns-in-OfTimer c = rw (c.in-OfTimer.is, ← c.timers.ensures) c.number_in-in-OfTimer.ensures
 
 pub returns-in-OfLog : goal.returns-in-OfLog
 returns-in-OfLog c = rw c.in-OfLog.is c.number_in-in-OfLog.ensures
