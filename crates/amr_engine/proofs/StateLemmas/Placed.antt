@@ -7,13 +7,9 @@ use Rattle.std.proofs.lemmas.Option.{slice_get-map}
 use Rattle.amr_labels.specs.Map.{Map, get, insert, get-insert, same_map}
 use Rattle.amr_labels.specs.Labels.{LabelSet}
 use Rattle.amr_config.specs.Stated.Config.{Config}
-use Rattle.amr_config.specs.Routing.{chosen_routes, group_wait_of}
+use Rattle.amr_config.specs.Routing.{chosen_routes}
 use Rattle.amr_config.specs.Groups.{groups_of, group_at}
 use Rattle.amr_config.specs.declared.route_labels.RouteLabels.{RouteLabels}
-use Rattle.amr_rules.specs.declared.alert.Alert.{Alert}
-use Rattle.amr_engine.specs.declared.state.notification.GroupTimer.{GroupTimer}
-use Rattle.amr_config.specs.RouteLabels.{on_route}
-use Rattle.amr_engine.specs.State.State.{State, group_key, timer_with, insert_into_group}
 use Rattle.std.proofs.lemmas.Map.Views.{tells_apart}
 
 -- putting the value of a key under that key changes nothing

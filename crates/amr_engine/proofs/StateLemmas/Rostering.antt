@@ -1,5 +1,5 @@
 -- The members of groups by number, how a change of one of them goes on, and the members of a group.
-use Rattle.std.proofs.Common.{◌==◌, slice_get, option_map, option_and_then, IsPermutation, Ordering, Less, Equal, Greater, [], ◌≡◌, ◌≤◌, ◌<◌, ℕ, Bool, true, false, IsTrue, cond, ◌||◌, ◌&&◌, T, List, ◌∷◌, Option, Some, None, is_some, map, length, get_or, ◌++◌, ◌+◌, refl, sym, ap, subst, ◌∙◌, arith}
+use Rattle.std.proofs.Common.{◌==◌, slice_get, option_map, IsPermutation, Ordering, Less, [], ◌≡◌, ◌≤◌, ◌<◌, ℕ, Bool, true, false, IsTrue, cond, ◌||◌, ◌&&◌, T, List, ◌∷◌, Option, Some, None, is_some, map, length, get_or, ◌++◌, ◌+◌, refl, sym, ap, subst, ◌∙◌, arith}
 use Rattle.std.specs.List.{All, AllByRecursion, IsDistinct, list_any, filter, filter_map, cons_option}
 use Rattle.std.specs.List.Sorted.{IsStrictlySortedBy, IsSortedBy}
 use Rattle.std.specs.Ordering.{nat_cmp, eq_by_cmp, is_eq, is_lt, ordering_then}
@@ -19,7 +19,7 @@ use Rattle.amr_labels.specs.Map.{Map, get, set, entries, get-set, get-entries, e
 use Rattle.amr_labels.proofs.Sorted.{first, second, less}
 use Rattle.amr_config.specs.Stated.Config.{Config}
 use Rattle.amr_rules.specs.declared.alert.Alert.{Alert}
-use Rattle.amr_tables.specs.Places.{value_at, is_marked}
+use Rattle.amr_tables.specs.Places.{is_marked}
 use Rattle.amr_tables.proofs.Placing.{length-push}
 use Rattle.amr_tables.proofs.Present.{get_push, marked_push}
 use Rattle.amr_tables.specs.Members.{has}
@@ -189,9 +189,7 @@ module _ (config : Config) (group : RouteLabels) where
   on_its_route key e = λ i. on_route (sym (ap (λ (r : RouteLabels). r.route) (tied_key group (group_key config key) e)) i) key.labels
 
   same_labels : (l : LabelSet) (key : RouteLabels) → is_in key ≡ true → eq_by_cmp route_labels_cmp (on_route group.route l) key ≡ eq_by_cmp label_set_cmp l key.labels
-  same_labels l key e =
-      ap (λ (n : ℕ). is_eq (ordering_then (nat_cmp group.route n) (label_set_cmp l key.labels))) (ap (λ (r : RouteLabels). r.route) (tied_key group (group_key config key) e))
-      ∙ ap (λ o. is_eq (ordering_then o (label_set_cmp l key.labels))) (tied_itself nat_cmp_total group.route)
+  same_labels l key e = grind (arith, tied_key group (group_key config key) e, tied_itself nat_cmp_total group.route)
 
   has_among : (l : LabelSet) (es : List (RouteLabels × Alert)) → has label_set_cmp (labels_of_members (among es)) l ≡ (is_in (on_route group.route l) && list_any (eq_by_cmp route_labels_cmp (on_route group.route l)) (map (λ e. e.0) es))
   has_among l [] = sym (and-false (is_in (on_route group.route l)))
@@ -294,8 +292,7 @@ module _ (config : Config) (a : Numbered RouteLabels Alert) (gs : Numbered Route
     found_at n there =
         let it = the_member n there in
         let key = on_route group.route it.labels in
-        ap (option_and_then (λ (k : RouteLabels). option_map (λ alert. (k.labels, alert)) (value_at a.cells n))) (key_at_number route_labels_cmp_total route_labels_cmp-IsAntisymmetric a is.numbering key n it.number)
-        ∙ ap (option_map (λ alert. (it.labels, alert))) (sym (value_at_number route_labels_cmp_total route_labels_cmp-IsAntisymmetric a is.numbering key n it.number) ∙ it.value)
+        grind (arith, key_at_number route_labels_cmp_total route_labels_cmp-IsAntisymmetric a is.numbering key n it.number, value_at_number route_labels_cmp_total route_labels_cmp-IsAntisymmetric a is.numbering key n it.number, it.value)
 
     abbrev members_at : (ns : List ℕ) → AllByRecursion IsMember ns → List (LabelSet × Alert)
     members_at [] all = []
@@ -316,9 +313,7 @@ module _ (config : Config) (a : Numbered RouteLabels Alert) (gs : Numbered Route
 
     from_alerts : (ps : List (LabelSet × Alert)) → All HasAlert ps → filter_map (with_alert (map_of route_labels_cmp a) group.route) (labels_of_members ps) ≡ ps
     from_alerts [] all = refl
-    from_alerts (p ∷ ps) all =
-        ap (λ o. cons_option o (filter_map (with_alert (map_of route_labels_cmp a) group.route) (labels_of_members ps))) (All-head HasAlert p ps all)
-        ∙ ap (λ l. p ∷ l) (from_alerts ps (All-tail HasAlert p ps all))
+    from_alerts (p ∷ ps) all = grind (arith, All-head HasAlert p ps all, from_alerts ps (All-tail HasAlert p ps all))
 
     -- the label set of a number among these is theirs
     has_labels : (ns : List ℕ) (all : AllByRecursion IsMember ns) (l : LabelSet) (n : ℕ) → number_of route_labels_cmp a (on_route group.route l) ≡ Some n → IsTrue (list_any (λ x. n == x) ns) → IsTrue (has label_set_cmp (labels_of_members (members_at ns all)) l)

@@ -24,11 +24,11 @@ use Rattle.amr_tables.proofs.Naming.{key_at_number, value_at_number, number_of_v
 use Rattle.amr_engine.specs.declared.state.notification.GroupTimer.{GroupTimer}
 use Rattle.amr_config.specs.declared.route_labels.RouteLabels.{RouteLabels}
 use Rattle.amr_engine.specs.declared.state.due.Kind.{Kind}
-use Rattle.amr_engine.specs.declared.state.due.Kind.TheVariants.{AlertRemoval, GroupRemoval, GroupFlush}
+use Rattle.amr_engine.specs.declared.state.due.Kind.TheVariants.{AlertRemoval}
 use Rattle.amr_config.specs.RouteLabels.{on_route, route_labels_cmp, route_labels_cmp_total, route_labels_cmp-IsAntisymmetric}
 use Rattle.amr_engine.specs.State.Dues.{Due, due_cmp, dues_of}
 use Rattle.amr_engine.specs.State.Timed.{IsScheduled, moments_in, alert_moment, group_moment, IsFirstOfKind}
-use Rattle.amr_engine.proofs.StateLemmas.Least.{sooner, alike, not_both}
+use Rattle.amr_engine.proofs.StateLemmas.Least.{sooner, alike}
 use Rattle.amr_engine.proofs.StateLemmas.Timing.{is_at, is_due, members}
 
 pub not_none : {A : Type 0} (a : A) (P : Type 0) → Some a ≡ None → P
@@ -160,10 +160,6 @@ module _ {K V : Type 0} (R : K → K → Ordering) (t : Numbered K V) where
   unfolding has_place
   unplaced k none = ap is_some none
 
-  pub has_number : (k : K) → IsTrue (has_place R t k) → number_of R t k ≡ None → ⊥
-  unfolding has_place
-  has_number k placed none = not_both (is_some (number_of R t k)) ⊥ (ap is_some none) placed
-
 pub group_none : (kind : Kind) → group_moment kind None ≡ None
 group_none kind = grind arith
 
@@ -199,9 +195,7 @@ module _ (a : Alerts) (c : Map route_labels_cmp GroupTimer) where
   no_alert none = λ other kind. false_from_ne_true (has due_cmp (dues_of a c) other) (λ h. none other.labels other.moment (alert_due other kind h).1)
 
   of_group : (kind : Kind) → kind ≢ AlertRemoval → (n : Moment) (route : ℕ) (labels : LabelSet) → is_due a c n kind route labels ≡ is_at n (group_moment kind (get c (on_route route labels)))
-  of_group AlertRemoval never n route labels = absurd (never refl)
-  of_group GroupRemoval never n route labels = refl
-  of_group GroupFlush never n route labels = refl
+  of_group kind never n route labels = grind arith
 
   group_due : (kind : Kind) → kind ≢ AlertRemoval → (other : Due) → other.kind ≡ kind → IsTrue (has due_cmp (dues_of a c) other) → group_moment kind (get c (on_route other.route other.labels)) ≡ Some other.moment
   group_due kind never other same h =

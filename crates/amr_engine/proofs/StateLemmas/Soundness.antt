@@ -1,17 +1,14 @@
 -- Records that can be put back.
-use Rattle.std.proofs.Common.{IfSome, flat_map, append-nil, append_assoc, Ordering, nat_cmp, [], ◌≡◌, ◌≤◌, ℕ, List, ◌∷◌, ◌++◌, Option, Some, IsTrue, refl, subst, sym, ap, is_some, ◌∙◌, length, arith}
-use Rattle.std.proofs.lemmas.Grind.{flat_map-append}
-use Rattle.amr_tables.specs.Numbered.{Numbered, number_of, has_place}
+use Rattle.std.proofs.Common.{IfSome, flat_map, append_assoc, [], ◌≡◌, ◌≤◌, ℕ, List, ◌∷◌, ◌++◌, Option, Some, refl, subst, sym, ap, ◌∙◌, length, arith}
+use Rattle.amr_tables.specs.Numbered.{has_place}
 use Rattle.amr_tables.specs.Records.{Records}
-use Rattle.amr_labels.specs.Labels.{label_set_cmp}
 use Rattle.amr_time.specs.Time.{latest_read}
 use Rattle.amr_engine.specs.declared.state.notification.Notification.{Notification}
 use Rattle.amr_engine.specs.declared.state.change.Change.{Change}
-use Rattle.amr_engine.specs.declared.state.change.Change.TheVariants.{OfMoment, OfRoster, OfAlert, OfSilence, OfMember, OfTimer, OfLog, OfNotes}
+use Rattle.amr_engine.specs.declared.state.change.Change.TheVariants.{OfRoster, OfNotes}
 use Rattle.amr_engine.specs.declared.state.tables.Tables.{Tables}
 use Rattle.amr_engine.specs.State.Records.{after_change, put_back}
-use Rattle.amr_config.specs.RouteLabels.{route_labels_cmp}
-use Rattle.amr_engine.specs.State.State.{State, log_key_cmp}
+use Rattle.amr_engine.specs.State.State.{State}
 use Rattle.amr_engine.specs.State.Allowed.{IsAllowed}
 use Rattle.amr_engine.specs.State.Kept.{before_open_record}
 use Rattle.amr_engine.specs.declared.state.store.Store.TheInside.{Inside}
@@ -109,10 +106,6 @@ kept_forgotten a j kept closed current = record {
   sound = subst (λ es. AreSound es a.tables) (λ i. joined (sym closed i) ++ sym current i) (sound-rest (joined a.journal.closed) a.journal.current a.tables kept.sound);
 }
 
--- the notifications may be any
-pub kept_silent : (a b : Inside) → IsKept a → IsKept (record a { tables = record a.tables { notes = b.tables.notes } })
-kept_silent a b kept = kept_still a (record a { tables = record a.tables { notes = b.tables.notes } }) kept (still a.tables b.tables) kept.moment refl
-
 -- ---- what the open record gives by being put back, after a change
 
 -- a notification was appended, and their number before entered
@@ -170,7 +163,7 @@ kept_roomier a t j kept roomier =
 pub placed_first : (a b t : Tables) (i j : Records Change) → SameValues a b → MorePlaces a b → IsRoomier b i t j → IsRoomier a i t j
 placed_first a b t i j same more roomier = grind (arith, more_still a b t more)
 
--- room is made in the journal and for notifications
+-- room is made in the journal, and the notifications may be any
 pub kept_reserved : (a b : Inside) → IsKept a → b.journal.closed ≡ a.journal.closed → b.journal.current ≡ a.journal.current → IsKept (record a { tables = record a.tables { notes = b.tables.notes }; journal = b.journal })
 kept_reserved a b kept closed current =
     kept_still a (record a { tables = record a.tables { notes = b.tables.notes }; journal = b.journal }) kept (still a.tables b.tables) kept.moment (λ i. joined (closed i) ++ current i)

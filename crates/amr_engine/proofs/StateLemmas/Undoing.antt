@@ -1,5 +1,5 @@
 -- What an event displaces is put back, entry by entry.
-use Rattle.std.proofs.Common.{cond, Ordering, [], ◌≡◌, suc, Bool, true, false, List, ◌∷◌, ◌++◌, Option, refl, sym, ap, ◌∙◌, length, arith}
+use Rattle.std.proofs.Common.{Ordering, [], ◌≡◌, suc, true, false, List, ◌∷◌, ◌++◌, Option, refl, sym, ap, ◌∙◌, length, arith}
 use Rattle.std.proofs.Math.Seq.{take-append_seam}
 use Rattle.std.specs.Ordering.{eq_by_cmp}
 use Rattle.std.specs.Cmp.{IsTotalOrder, nat_cmp_total}
@@ -8,16 +8,11 @@ use Rattle.std.proofs.lemmas.Cmp.{eq_by_cmp_equiv}
 use Rattle.std.proofs.lemmas.Map.Views.{tells_apart}
 use Rattle.amr_labels.specs.Map.{Map, set, get-set, set-back, same_map}
 use Rattle.amr_labels.specs.Labels.{label_set_cmp_total, label_set_cmp-IsAntisymmetric}
-use Rattle.amr_rules.specs.declared.alert.Alert.{Alert}
-use Rattle.amr_rules.specs.declared.dedup.LogEntry.{LogEntry}
-use Rattle.amr_rules.specs.Silences.{Silences}
-use Rattle.amr_rules.specs.Muting.{Alerts}
-use Rattle.amr_engine.specs.declared.state.notification.GroupTimer.{GroupTimer}
 use Rattle.amr_engine.specs.declared.state.notification.Notification.{Notification}
 use Rattle.amr_engine.specs.declared.state.change.Change.{Change}
-use Rattle.amr_engine.specs.declared.state.change.Change.TheVariants.{OfAlert, OfSilence, OfMember, OfTimer, OfLog, OfNotes}
-use Rattle.amr_config.specs.RouteLabels.{route_labels_cmp, route_labels_cmp_total, route_labels_cmp-IsAntisymmetric}
-use Rattle.amr_engine.specs.State.State.{State, log_key_cmp, log_key_cmp_total, log_key_cmp-IsAntisymmetric}
+use Rattle.amr_engine.specs.declared.state.change.Change.TheVariants.{OfNotes}
+use Rattle.amr_config.specs.RouteLabels.{route_labels_cmp_total, route_labels_cmp-IsAntisymmetric}
+use Rattle.amr_engine.specs.State.State.{State, log_key_cmp_total, log_key_cmp-IsAntisymmetric}
 use Rattle.amr_engine.specs.declared.state.tables.Tables.{Tables}
 use Rattle.amr_engine.specs.State.Allowed.{IsAllowed}
 use Rattle.amr_engine.specs.State.Records.{after_change, put_back, befores, before_all}
@@ -37,21 +32,17 @@ put_back-change t change h =
     grind (arith, set-back label_set_cmp_total label_set_cmp-IsAntisymmetric s.alerts, set-back nat_cmp_total nat_cmp-IsAntisymmetric s.silences, set-back route_labels_cmp_total route_labels_cmp-IsAntisymmetric s.placements,
     set-back route_labels_cmp_total route_labels_cmp-IsAntisymmetric s.timers, set-back log_key_cmp_total log_key_cmp-IsAntisymmetric s.log)
 
--- so is a notification that is appended
-pub put_back-notification : (s : State) (notification : Notification) → after_change (record s { notes = s.notes ++ notification ∷ [] }) (OfNotes (length s.notes)) ≡ s
-put_back-notification s notification = ap (λ (notes : List Notification). record s { notes = notes }) (take-append_seam s.notes (notification ∷ []))
-
 -- a change that is entered leaves what the open record gives
 pub put_back-entered : (entries : List Change) (t : Tables) (change : Change) → IsAllowed change → put_back (entries ++ change_back t change ∷ []) (after_change (shown_by t) change) ≡ put_back entries (shown_by t)
 put_back-entered entries t change h = put_back-push entries (change_back t change) (after_change (shown_by t) change) ∙ ap (put_back entries) (put_back-change t change h)
 
+-- so does a notification that is appended
 pub put_back-appended : (entries : List Change) (s : State) (notification : Notification) → put_back (entries ++ OfNotes (length s.notes) ∷ []) (record s { notes = s.notes ++ notification ∷ [] }) ≡ put_back entries s
-put_back-appended entries s notification = put_back-push entries (OfNotes (length s.notes)) (record s { notes = s.notes ++ notification ∷ [] }) ∙ ap (put_back entries) (put_back-notification s notification)
+put_back-appended entries s notification =
+    put_back-push entries (OfNotes (length s.notes)) (record s { notes = s.notes ++ notification ∷ [] })
+    ∙ ap (λ (notes : List Notification). put_back entries (record s { notes = notes })) (take-append_seam s.notes (notification ∷ []))
 
 -- ---- two values in a map
-
-pub twice : {A : Type 0} (b : Bool) (x y z : A) → cond b x (cond b y z) ≡ cond b x z
-twice b x y z = grind arith
 
 module _ {K X : Type 0} {R : K → K → Ordering} (o : IsTotalOrder R) (same : IsAntisymmetric R) where
   -- of two values of one key the second counts

@@ -125,6 +125,7 @@ impl Store {
     }
 
     /// Undoes the last entry of the open record. It takes no memory.
+    #[tactic(auto, using(crate::proofs::StateLemmas::Soundness::last_is_sound))]
     pub fn undo_entry(&mut self)
         requires { 0 < length self.old.current }
         ensures kept { before_open_record self.new ≡ before_open_record self.old }
@@ -366,6 +367,7 @@ impl Store {
 
     /// Stores an alert, merged with the stored one of the same labels if there is one. Returns the
     /// number of the labels and what it stored. It looks for the labels once.
+    #[tactic(auto, using(crate::proofs::StateLemmas::Soundness::kept_roomier))]
     pub fn put_alert(
         &mut self,
         labels: &Labels,
@@ -389,6 +391,7 @@ impl Store {
 
     /// Puts an alert into its group, in place of one with the same labels if there is one. Returns
     /// the group timer. If the labels are in the group already, it looks for nothing but these.
+    #[tactic(auto, using(crate::proofs::StateLemmas::Soundness::kept_roomier, crate::proofs::StateLemmas::Soundness::placed_first))]
     pub(crate) fn put_member(
         &mut self,
         group: &RouteLabels,
@@ -437,6 +440,7 @@ impl Store {
 
     /// Sets an entry of the notification log if the dedup check says that it is due. Returns whether
     /// it is. It looks for a former entry once.
+    #[tactic(auto, using(crate::proofs::StateLemmas::Soundness::kept_roomier))]
     pub fn write_log_if_due(
         &mut self,
         key: &LogKey,

@@ -1,12 +1,9 @@
-use Rattle.std.proofs.Common.{option_map, option_copied, ◌≡◌, Option, Some, refl, sym, ap, subst, ◌∙◌}
+use Rattle.std.proofs.Common.{option_copied, ◌≡◌, Some, refl, sym, ap, ◌∙◌}
 use Rattle.amr_labels.specs.Labels.{label_set_cmp, label_set_cmp_total, label_set_cmp-IsAntisymmetric}
 use Rattle.amr_tables.specs.Numbered.{map_of, key_at}
 use Rattle.amr_tables.proofs.Naming.{key_at_number}
 use Rattle.amr_tables.proofs.Keying.{rank_of-total}
-use Rattle.amr_engine.specs.declared.state.due.Kind.TheVariants.{AlertRemoval}
-use Rattle.amr_engine.specs.declared.state.pending.Pending.{Pending}
-use Rattle.amr_engine.specs.State.Dues.{dues_of}
-use Rattle.amr_engine.specs.State.Timed.{alert_moment, due_of, IsFirstOfKind}
+use Rattle.amr_engine.specs.State.Timed.{alert_moment}
 use Rattle.amr_engine.proofs.StateLemmas.Scheduling.{first_moment, no_moment, first_alert, no_alert, named_moment, not_none}
 use Rattle.amr_engine.proofs.state.alert_table.AlertRemovals.first.Goals as goal
 

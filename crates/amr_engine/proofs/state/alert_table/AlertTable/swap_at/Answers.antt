@@ -1,8 +1,8 @@
-use Rattle.std.proofs.Common.{◌≡◌, Some, sym, ap, subst, ◌∙◌}
+use Rattle.std.proofs.Common.{◌≡◌, Some, ap, ◌∙◌}
 use Rattle.amr_labels.specs.Labels.{LabelSet, label_set_cmp, label_set_cmp_total, label_set_cmp-IsAntisymmetric}
 use Rattle.amr_engine.specs.State.Timed.{alert_moment}
 use Rattle.amr_rules.specs.declared.alert.Alert.{Alert}
-use Rattle.amr_tables.specs.Numbered.{Numbered, number_of, IsNumber, IsValueOf, IsSetAt, SamePlaces}
+use Rattle.amr_tables.specs.Numbered.{Numbered, number_of}
 use Rattle.amr_engine.proofs.IndexesLemmas.Arriving.{arrived_same}
 use Rattle.amr_engine.proofs.StateLemmas.Scheduling.{scheduled_set, ordered_before}
 use Rattle.amr_engine.proofs.state.alert_table.AlertTable.swap_at.Goals as goal

@@ -1,11 +1,9 @@
-use Rattle.std.proofs.Common.{option_map, option_copied, ◌≡◌, Option, Some, sym, ap, subst, ◌∙◌}
+use Rattle.std.proofs.Common.{option_copied, ◌≡◌, Some, sym, ap, ◌∙◌}
 use Rattle.amr_tables.specs.Numbered.{map_of, key_at}
 use Rattle.amr_tables.proofs.Naming.{key_at_number}
 use Rattle.amr_tables.proofs.Keying.{rank_of-total}
 use Rattle.amr_config.specs.RouteLabels.{route_labels_cmp, route_labels_cmp_total, route_labels_cmp-IsAntisymmetric}
-use Rattle.amr_engine.specs.declared.state.pending.Pending.{Pending}
-use Rattle.amr_engine.specs.State.Dues.{due_at, dues_of}
-use Rattle.amr_engine.specs.State.Timed.{group_moment, timer_of, due_of, IsFirstOfKind}
+use Rattle.amr_engine.specs.State.Timed.{group_moment}
 use Rattle.amr_engine.proofs.StateLemmas.Scheduling.{first_moment, no_moment, first_group, no_group, group_none, named_moment, not_none}
 use Rattle.amr_engine.proofs.state.group_timers.GroupTimers.first.Goals as goal
 
@@ -31,12 +29,7 @@ returns c = λ alerts.
     let first = c.in_ok-first.first in
     let named : key_at t first.number ≡ Some c.in_ok-group.group.now = sym c.key_at.ensures.key ∙ ap option_copied c.in_ok-group.was in
     let group = c.in_ok-group.group.now in
-    let moment = first.moment in
-    let kinds = sym c.timer_of_kind.ensures.kind in
-    let groups = sym c.timer_of_kind.ensures.group in
-    let is : record { moment = moment; kind = kind; route = group.route; labels = group.labels } ≡ due_at moment (timer_of c.timer_of_kind.result) =
-    λ i. record { moment = moment; kind = kinds i; route = (groups i).route; labels = (groups i).labels } in
-    subst (λ due. IsFirstOfKind kind (dues_of alerts (map_of route_labels_cmp t)) (Some due)) is
-    (first_group alerts (map_of route_labels_cmp t) kind c.requires.group group moment
+    rw (c.timer_of_kind.ensures.kind, c.timer_of_kind.ensures.group)
+    (first_group alerts (map_of route_labels_cmp t) kind c.requires.group group first.moment
     (first_moment route_labels_cmp_total route_labels_cmp-IsAntisymmetric (group_moment kind) t c.args.earliest.now first group (group_none kind) c.requires.numbering c.requires.scheduled
     (c.in_ok-first.ensures.some (rank_of-total route_labels_cmp_total t)) named))

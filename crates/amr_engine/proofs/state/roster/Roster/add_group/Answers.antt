@@ -1,5 +1,5 @@
-use Rattle.std.proofs.Common.{◌≡◌, None, IsTrue, refl, sym, ap, subst, ◌∙◌, arith}
-use Rattle.amr_tables.specs.Numbered.{number_of, next_number, has_place, GetsNumber}
+use Rattle.std.proofs.Common.{◌≡◌, None, refl, sym, ap, subst, ◌∙◌, arith}
+use Rattle.amr_tables.specs.Numbered.{number_of, next_number, GetsNumber}
 use Rattle.amr_config.specs.RouteLabels.{route_labels_cmp, route_labels_cmp_total, route_labels_cmp-IsAntisymmetric}
 use Rattle.amr_engine.specs.declared.state.due.Kind.TheVariants.{GroupRemoval, GroupFlush}
 use Rattle.amr_engine.specs.State.Rostered.{Rostered, IsGrouped}

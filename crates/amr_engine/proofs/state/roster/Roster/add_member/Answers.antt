@@ -1,5 +1,5 @@
-use Rattle.std.proofs.Common.{◌≡◌, ◌++◌, ◌∷◌, [], false, None, Some, IsTrue, refl, sym, ap, subst, ◌∙◌, arith}
-use Rattle.amr_tables.specs.Numbered.{number_of, has_place}
+use Rattle.std.proofs.Common.{◌≡◌, ◌++◌, ◌∷◌, [], false, None, Some, refl, ap, ◌∙◌, arith}
+use Rattle.amr_tables.specs.Numbered.{number_of}
 use Rattle.amr_config.specs.RouteLabels.{route_labels_cmp}
 use Rattle.amr_engine.specs.State.State.{group_key}
 use Rattle.amr_engine.specs.State.Rostered.{Rostered}

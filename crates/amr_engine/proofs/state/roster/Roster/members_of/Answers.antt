@@ -1,22 +1,19 @@
-use Rattle.std.proofs.Common.{IsSortedBy, filter_map, is_lt, rules, ◌≡◌, ◌++◌, List, Some, sym, ap, ◌∙◌, arith}
+use Rattle.std.proofs.Common.{IsSortedBy, filter_map, is_lt, rules, ◌≡◌, ◌++◌, List, Some, sym, ◌∙◌, arith}
 use Rattle.std.proofs.lemmas.List.{append-nil, at_drop_all}
 use Rattle.std.proofs.lemmas.Fn.{always_returns_same}
 use Rattle.std.proofs.lemmas.List.MinMax.{ranks_by}
 use Rattle.amr_labels.specs.Labels.{LabelSet, label_set_cmp, label_set_cmp_total}
 use Rattle.amr_rules.specs.declared.alert.Alert.{Alert}
-use Rattle.amr_tables.specs.Numbered.{map_of, number_of}
+use Rattle.amr_tables.specs.Numbered.{number_of}
 use Rattle.amr_config.specs.RouteLabels.{route_labels_cmp}
-use Rattle.amr_engine.specs.State.State.{members_among}
-use Rattle.amr_engine.specs.State.Rostered.{Rostered, member_at}
+use Rattle.amr_engine.specs.State.Rostered.{member_at}
 use Rattle.amr_engine.proofs.StateLemmas.Rostering.{no_members, members_found}
 use Rattle.amr_engine.proofs.state.roster.Roster.members_of.Goals as goal
 
 pub returns-in_default : goal.returns-in_default
 returns-in_default c =
     let r = c.self.inside in
-    let group = c.args.group.now in
-    c.new.ensures.items ∙ no_members r.config r.placements r.timers r.members c.self.invariant.0 group (sym c.number_of.ensures.number ∙ c.in_default.is)
-    ∙ ap (λ (v : Rostered). members_among v.config (map_of route_labels_cmp v.placements) group) c.self.view_is
+    rw (← c.self.view_is) (c.new.ensures.items ∙ no_members r.config r.placements r.timers r.members c.self.invariant.0 c.args.group.now (sym c.number_of.ensures.number ∙ c.in_default.is))
 
 pub numbers_of-numbers-requires : goal.numbers_of-numbers-requires
 numbers_of-numbers-requires c =
@@ -34,5 +31,5 @@ returns c =
     ∙ (λ i. filter_map (member_at (sym c.self.view_is i).placements) c.numbers_of-numbers.result.now) in
     let up : IsSortedBy (λ (x y : LabelSet × Alert). is_lt (label_set_cmp x.0 y.0)) c.sort_by.new.self.items =
     c.in_ok-sort_by.ensures.sorted (λ x y. is_lt (label_set_cmp x.0 y.0)) (ranks_by label_set_cmp_total (λ (x : LabelSet × Alert). x.0)) (always_returns_same _ _ _ (λ a q f' k. search rules)) in
-    members_found r.config r.placements r.timers r.members c.self.invariant.0 group c.self.invariant.1.numbering c.in-Some.number at c.numbers_of-numbers.result.now c.numbers_of-numbers.ensures found c.sort_by.new.self.items found_is c.in_ok-sort_by.ensures.permutation up
-    ∙ ap (λ (v : Rostered). members_among v.config (map_of route_labels_cmp v.placements) group) c.self.view_is
+    rw (← c.self.view_is)
+    (members_found r.config r.placements r.timers r.members c.self.invariant.0 group c.self.invariant.1.numbering c.in-Some.number at c.numbers_of-numbers.result.now c.numbers_of-numbers.ensures found c.sort_by.new.self.items found_is c.in_ok-sort_by.ensures.permutation up)

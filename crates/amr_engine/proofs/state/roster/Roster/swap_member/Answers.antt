@@ -1,6 +1,6 @@
-use Rattle.std.proofs.Common.{◌==◌, length-set, cond, length, sym, ap, subst, ◌∙◌, arith}
+use Rattle.std.proofs.Common.{◌==◌, length-set, cond, length, ap, ◌∙◌}
 use Rattle.amr_tables.specs.Places.{is_marked}
-use Rattle.amr_tables.specs.Numbered.{number_of, IsNumber, IsValueOf, IsSetAt, SamePlaces}
+use Rattle.amr_tables.specs.Numbered.{number_of}
 use Rattle.amr_config.specs.RouteLabels.{route_labels_cmp}
 use Rattle.amr_engine.specs.State.Rostered.{Rostered}
 use Rattle.amr_engine.proofs.StateLemmas.Rostering.{grouped_set}

@@ -1,5 +1,5 @@
-use Rattle.std.proofs.Common.{le_refl, length-set, ◌≡◌, Some, length, refl, sym, ap, subst, ◌∙◌}
-use Rattle.amr_tables.specs.Numbered.{number_of, IsNumber, IsValueOf, IsSetAt, SamePlaces}
+use Rattle.std.proofs.Common.{le_refl, length-set, ◌≡◌, Some, length, refl, ap, ◌∙◌}
+use Rattle.amr_tables.specs.Numbered.{number_of}
 use Rattle.amr_engine.specs.State.Rostered.{Rostered}
 use Rattle.amr_engine.specs.declared.state.due.Kind.TheVariants.{GroupRemoval, GroupFlush}
 use Rattle.amr_engine.specs.State.Timed.{group_moment}
@@ -34,6 +34,9 @@ invariant_of-self c =
         flushed = scheduled_set route_labels_cmp_total route_labels_cmp-IsAntisymmetric (group_moment GroupFlush) t.timers c.swap_at.new.self t.flushes c.update.new.self group n number c.swap_at.ensures.keys c.update.ensures.room c.update.ensures.held c.update.ensures.kept c.self.invariant.1.flushed;
       },
     )
+
+pub returns-clause-former : goal.returns-clause-former
+returns-clause-former c = rw (← c.self.view_is) c.swap_at.ensures.former
 
 pub returns-clause-places : goal.returns-clause-places
 returns-clause-places c = rw (← c.self.view_is) c.swap_at.ensures.places

@@ -1,11 +1,8 @@
 use Rattle.std.proofs.Common.{Some, ap, ◌∙◌}
 use Rattle.amr_engine.specs.declared.state.change.Change.TheVariants.{OfAlert}
 use Rattle.amr_engine.specs.State.Kept.{before_open_record}
-use Rattle.amr_engine.proofs.StateLemmas.Soundness.{kept_roomier, kept_put, undone_put}
+use Rattle.amr_engine.proofs.StateLemmas.Soundness.{kept_put, undone_put}
 use Rattle.amr_engine.proofs.state.store.Store.put_alert.Goals as goal
-
-pub invariant_of-self : goal.invariant_of-self
-invariant_of-self c = kept_roomier c.self.inside c.make_room.new.tables c.make_room.new.journal c.self.invariant c.make_room.ensures.roomier
 
 pub invariant_of-self-2 : goal.invariant_of-self-2
 invariant_of-self-2 c =

@@ -1,9 +1,7 @@
-use Rattle.std.proofs.Common.{Some, refl, sym, ap, ◌∙◌}
-use Rattle.amr_labels.specs.Map.{get}
+use Rattle.std.proofs.Common.{Some, refl, ap, ◌∙◌}
 use Rattle.amr_engine.specs.declared.state.change.Change.TheVariants.{OfMember}
-use Rattle.amr_engine.specs.State.State.{State, group_key}
-use Rattle.amr_engine.specs.State.Kept.{Kept, before_open_record}
-use Rattle.amr_engine.proofs.StateLemmas.Soundness.{same_state, placed_first, kept_roomier, kept_put, undone_put}
+use Rattle.amr_engine.specs.State.Kept.{before_open_record}
+use Rattle.amr_engine.proofs.StateLemmas.Soundness.{placed_first, kept_roomier, kept_put, undone_put}
 use Rattle.amr_engine.proofs.state.store.Store.put_member.Goals as goal
 
 pub invariant_of-self : goal.invariant_of-self
@@ -11,13 +9,6 @@ invariant_of-self c =
     let placed = c.place_in_group.ensures in
     kept_roomier c.self.inside c.place_in_group.new.self c.self.inside.journal c.self.invariant
     (record { values = placed.values; places = placed.places; closed = refl; current = refl; room = refl })
-
-pub invariant_of-self-in_err-number-2 : goal.invariant_of-self-in_err-number-2
-invariant_of-self-in_err-number-2 c =
-    let a = c.self.inside in
-    let placed = c.place_in_group.ensures in
-    kept_roomier a c.make_room.new.tables c.make_room.new.journal c.self.invariant
-    (placed_first a.tables c.place_in_group.new.self c.make_room.new.tables a.journal c.make_room.new.journal placed.values placed.places c.make_room.ensures.roomier)
 
 pub invariant_of-self-2 : goal.invariant_of-self-2
 invariant_of-self-2 c =

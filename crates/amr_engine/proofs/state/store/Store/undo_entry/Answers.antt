@@ -1,10 +1,7 @@
 use Rattle.std.proofs.Common.{ap, ◌∙◌}
 use Rattle.amr_engine.specs.State.Kept.{before_open_record}
-use Rattle.amr_engine.proofs.StateLemmas.Soundness.{last_is_sound, kept_undone, undone_popped}
+use Rattle.amr_engine.proofs.StateLemmas.Soundness.{kept_undone, undone_popped}
 use Rattle.amr_engine.proofs.state.store.Store.undo_entry.Goals as goal
-
-pub find-number-requires : goal.find-number-requires
-find-number-requires c = last_is_sound c.self.inside c.pop-back.new.self.current c.pop-back.result c.self.invariant c.pop-back.ensures.current
 
 pub invariant_of-self : goal.invariant_of-self
 invariant_of-self c =

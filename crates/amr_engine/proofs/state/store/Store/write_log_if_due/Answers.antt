@@ -5,15 +5,12 @@ use Rattle.amr_engine.specs.declared.state.change.Change.TheVariants.{OfLog}
 use Rattle.amr_engine.specs.State.State.{log_key_cmp}
 use Rattle.amr_engine.specs.State.Kept.{Kept, before_open_record}
 use Rattle.amr_engine.specs.State.Logged.{is_due}
-use Rattle.amr_engine.proofs.StateLemmas.Soundness.{found, kept_roomier, kept_put, undone_put}
+use Rattle.amr_engine.proofs.StateLemmas.Soundness.{found, kept_put, undone_put}
 use Rattle.amr_engine.proofs.state.store.Store.write_log_if_due.Goals as goal
 
 pub make_room-requires : goal.make_room-requires
 make_room-requires c =
     found _ _ (ap (number_of log_key_cmp c.self.inside.tables.log) c.in_ok-clone.ensures.cases ∙ sym c.look_up_number-number.ensures.number)
-
-pub invariant_of-self : goal.invariant_of-self
-invariant_of-self c = kept_roomier c.self.inside c.make_room.new.tables c.make_room.new.journal c.self.invariant c.make_room.ensures.roomier
 
 pub invariant_of-self-2 : goal.invariant_of-self-2
 invariant_of-self-2 c =

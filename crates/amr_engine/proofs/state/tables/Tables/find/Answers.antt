@@ -1,6 +1,3 @@
-use Rattle.std.proofs.Common.{nat_cmp, sym, ap, ◌∙◌}
-use Rattle.amr_tables.specs.Numbered.{number_of}
-use Rattle.amr_config.specs.RouteLabels.{route_labels_cmp}
 use Rattle.amr_engine.proofs.state.tables.Tables.find.Goals as goal
 
 pub returns-in-OfMember : goal.returns-in-OfMember
