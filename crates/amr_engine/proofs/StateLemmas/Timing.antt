@@ -12,7 +12,7 @@ use Rattle.amr_labels.specs.Labels.{LabelSet, label_set_cmp, label_set_cmp_total
 use Rattle.amr_labels.specs.Map.{Map, get, entries, get-entries, entries-sorted}
 use Rattle.amr_labels.proofs.Sorted as sorted
 use Rattle.amr_rules.specs.Muting.{Alerts}
-use Rattle.amr_time.specs.Time.{Moment, second}
+use Rattle.amr_time.specs.Time.{Moment}
 use Rattle.amr_tables.specs.Members.{has}
 use Rattle.amr_engine.specs.declared.state.notification.GroupTimer.{GroupTimer}
 use Rattle.amr_config.specs.declared.route_labels.RouteLabels.{RouteLabels}

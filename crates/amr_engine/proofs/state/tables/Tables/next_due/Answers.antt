@@ -3,7 +3,7 @@ use Rattle.amr_labels.specs.Labels.{label_set_cmp}
 use Rattle.amr_tables.specs.Numbered.{map_of}
 use Rattle.amr_config.specs.RouteLabels.{route_labels_cmp}
 use Rattle.amr_engine.specs.State.Dues.{dues_of}
-use Rattle.amr_engine.specs.State.Timed.{due_of, earlier}
+use Rattle.amr_engine.specs.State.Timed.{due_of}
 use Rattle.amr_engine.proofs.StateLemmas.Least.{first_of_kinds}
 use Rattle.amr_engine.proofs.state.tables.Tables.next_due.Goals as goal
 
