@@ -22,11 +22,7 @@ use Rattle.amr_engine.proofs.Lasting.{due_holds}
 
 module _ (at : Moment) (s : State) (labels : LabelSet) where
   alert_removed : IsPlaced at s → IsPlaced at (record s { alerts = remove s.alerts labels })
-  alert_removed placed = record {
-    copied = λ asked alert is. placed.copied asked alert (get-before_remove label_set_cmp_total label_set_cmp-IsAntisymmetric s.alerts labels asked alert is);
-    chosen_only = placed.chosen_only;
-    timed = λ member copy e. timed_as s (record s { alerts = remove s.alerts labels }) (group_key s.config member) refl (placed.timed member copy e);
-  }
+  alert_removed placed = grind (arith, get-before_remove label_set_cmp_total label_set_cmp-IsAntisymmetric s.alerts labels)
 
 -- ---- the removal of a group
 
@@ -48,11 +44,7 @@ module _ (at : Moment) (s : State) (group : RouteLabels) where
   others_timed other emptied timed = grind (arith, key_or_apart other group, not_both s group, get-remove_apart route_labels_cmp_total route_labels_cmp-IsAntisymmetric s.timers group other)
 
   group_removed : IsEmptied s group → IsPlaced at s → IsPlaced at without_group
-  group_removed emptied placed = record {
-    copied = placed.copied;
-    chosen_only = placed.chosen_only;
-    timed = λ member copy e. others_timed (group_key s.config member) emptied (placed.timed member copy e);
-  }
+  group_removed emptied placed = grind (arith, λ (member : RouteLabels). others_timed (group_key s.config member) emptied)
 
 -- a group whose removal is due is empty
 removal_emptied : (s : State) (due : Due) → due.kind ≡ GroupRemoval → IsIn due (dues s) → IsEmptied s (on_route due.route due.labels)

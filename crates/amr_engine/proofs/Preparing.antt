@@ -59,11 +59,7 @@ no_silence s at posted reason own = ap (on_ok (with_silences (at_moment at s))) 
 pub some_silence : (s : State) (at : Moment) (posted : PostedSilence) (silence_update : SilenceUpdate) → Ok (with_decision posted silence_update s.silences) ≡ after_post at posted s.silences
     → DoesAsPrepared s at (Act.Silence posted) (prepared.Silence posted.id posted.new_id silence_update)
 unfolding after_act
-some_silence s at posted silence_update own = record {
-  does = λ next stays. grind arith;
-  skips = λ next stays. refl;
-  light = λ next after stays. omega arith;
-}
+some_silence s at posted silence_update own = grind arith
 
 -- no silence has the id
 pub no_expiry : (s : State) (at : Moment) (id : ℕ) → get s.silences id ≡ None → after_act (at_moment at s) (Act.Expire id) ≡ Err 18
@@ -74,20 +70,12 @@ no_expiry s at id missing = grind arith
 pub some_expiry : (s : State) (at : Moment) (id : ℕ) (silence ended : Silence) → get s.silences id ≡ Some silence → ended ≡ expired_form at silence
     → DoesAsPrepared s at (Act.Expire id) (prepared.Expire id ended)
 unfolding after_act after_expiry
-some_expiry s at id silence ended found is = record {
-  does = λ next stays. grind arith;
-  skips = λ next stays. refl;
-  light = λ next after stays. omega arith;
-}
+some_expiry s at id silence ended found is = grind arith
 
 -- a configuration was read
 pub some_reload : (s : State) (at : Moment) (config loaded : Config) → loaded ≡ config → DoesAsPrepared s at (Act.Reload (Ok config)) (prepared.Reload loaded)
 unfolding after_act
-some_reload s at config loaded is = record {
-  does = λ next stays. ap (λ (x : Config). Ok (with_config next x)) (sym is);
-  skips = λ next stays. refl;
-  light = λ next after stays. omega arith;
-}
+some_reload s at config loaded is = grind arith
 
 -- a configuration was refused
 pub no_reload : (s : State) (at : Moment) (reason : Reason) → after_act (at_moment at s) (Act.Reload (Err reason)) ≡ Err reason

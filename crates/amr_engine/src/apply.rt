@@ -115,6 +115,7 @@ fn apply_in_order(
 
 /// Makes every move due at or before `at`, then advances the clock to `at`. Returns the number of
 /// moves, or `None` if more than 1,000,000 are due.
+#[tactic(auto, using(crate::proofs::CachedQuiet::stays_true))]
 fn advance_to(
     store: &mut Store,
     quiet_groups: &mut QuietGroups,

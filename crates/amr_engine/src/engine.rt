@@ -56,6 +56,7 @@ impl Model for Engine {
 
 impl Engine {
     /// Returns an engine in which nothing is stored, with the clock at 1970.
+    #[tactic(auto, using(crate::proofs::Settling::no_past))]
     pub fn new(alloc: Global, config: Config) -> Engine
         ensures state { result.state ≡ start config }
         ensures past { result.past ≡ [] }
@@ -115,6 +116,7 @@ impl Engine {
     }
 
     /// Undoes the last event. It takes no memory, so it can't fail.
+    #[tactic(auto, using(crate::proofs::Settling::some_record, crate::proofs::Settling::past_undone))]
     pub fn undo_last(&mut self)
         requires { 0 < length self.old.past }
         ensures past { self.old.past ≡ self.new.past ++ self.new.state ∷ [] }
@@ -143,6 +145,7 @@ impl Engine {
 
     /// Drops all records. The events applied so far can't be undone any more. A run does this after
     /// each event, so that its memory doesn't grow with the script.
+    #[tactic(auto, using(crate::proofs::Settling::no_past, crate::proofs::PlacedRuns::forgotten_stays))]
     pub fn forget(&mut self)
         ensures state { self.new.state ≡ self.old.state }
         ensures past { self.new.past ≡ [] }
@@ -153,6 +156,7 @@ impl Engine {
 
     /// Drops the notifications so far, once no event can be undone any more. A run, which has their
     /// texts, does this after each event, so that its memory doesn't grow with them.
+    #[tactic(auto, using(crate::proofs::Settling::no_past, crate::proofs::PlacedRuns::dropped_stays, crate::proofs::CachedQuiet::stays_true))]
     pub fn drop_notifications(&mut self)
         requires { self.old.records ≡ [] }
         ensures state { self.new.state ≡ without_notifications self.old.state }

@@ -35,6 +35,7 @@ use std::alloc::{AllocError, Global};
 /// group timer. It asks the cache first, then whether all integrations were notified of all
 /// members, and only then what mutes the members. Returns whether the flush is known to have set
 /// the group timer alone.
+#[tactic(auto, using(crate::proofs::CachedQuiet::reset_true))]
 pub(crate) fn flush(
     store: &mut Store,
     quiet_groups: &mut QuietGroups,
@@ -64,6 +65,7 @@ pub(crate) fn flush(
 
 /// Flushes the group with these members. It finds out what mutes them once, to find out whether the
 /// group is quiet and to notify of them.
+#[tactic(auto, using(crate::proofs::CachedQuiet::reset_true))]
 fn flush_unnotified(
     store: &mut Store,
     quiet_groups: &mut QuietGroups,
@@ -103,6 +105,7 @@ fn or_all<'m>(members: &'m [Member], through: &'m Option<Vec<Member>>) -> &'m [M
 
 /// Returns true only if a flush of the group with these members only sets its timer, whatever mutes
 /// them, and notes until when.
+#[tactic(auto, using(crate::proofs::QuietLaws::notified_flush))]
 fn is_all_notified(
     store: &Store,
     quiet_groups: &mut QuietGroups,
@@ -128,6 +131,7 @@ fn is_all_notified(
 /// Returns true only if a flush of the group with these members, of which `through` lists those that
 /// no stage mutes, only sets its timer, and notes until when. If no stage mutes any, it isn't asked,
 /// since the group isn't one that is quiet whatever mutes its members.
+#[tactic(auto, using(crate::proofs::QuietLaws::quiet_flush))]
 fn is_quiet(
     store: &Store,
     quiet_groups: &mut QuietGroups,

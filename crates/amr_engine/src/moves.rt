@@ -149,6 +149,7 @@ fn fire(store: &mut Store, quiet_groups: &mut QuietGroups, due: Due) -> Result<b
 
 /// Makes a move, at its own moment and not at the event's. If the move is known to only set a group
 /// timer, it does just that. Returns whether the move is known to have done only that.
+#[tactic(auto, using(crate::proofs::CachedQuiet::reset_true))]
 fn make(
     store: &mut Store,
     quiet_groups: &mut QuietGroups,

@@ -40,6 +40,7 @@ ghost use Rattle.amr_engine.specs.State.State.{State};
 ghost use Rattle.amr_engine.specs.Prepared.{IsPrepared};
 
 /// Prepares an action at a moment, or returns the first reason against it.
+#[tactic(auto, using(crate::proofs::Preparing::some_tick, crate::proofs::Preparing::some_label))]
 pub(crate) fn prepare<'a>(
     store: &Store,
     at: Moment,
@@ -59,6 +60,7 @@ pub(crate) fn prepare<'a>(
 }
 
 /// Prepares a post of alerts. It is refused if no alert is valid.
+#[tactic(auto, using(crate::proofs::Preparing::no_valid, crate::proofs::Preparing::some_valid))]
 fn prepare_post<'a>(
     store: &Store,
     at: Moment,
@@ -76,6 +78,7 @@ fn prepare_post<'a>(
 }
 
 /// Prepares a post of a silence.
+#[tactic(auto, using(crate::proofs::Preparing::no_silence, crate::proofs::Preparing::some_silence))]
 fn prepare_silence(
     store: &Store,
     at: Moment,
@@ -95,6 +98,7 @@ fn prepare_silence(
 }
 
 /// Prepares the expiry of a silence. It is refused if no silence has the id.
+#[tactic(auto, using(crate::proofs::Preparing::no_expiry, crate::proofs::Preparing::some_expiry))]
 fn prepare_expiry(
     store: &Store,
     at: Moment,

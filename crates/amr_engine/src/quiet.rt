@@ -79,6 +79,7 @@ ghost use Rattle.amr_engine.specs.CachedQuiet.{times_in, Outlasts, IsTrueOf};
 
 impl QuietGroups {
     /// Returns a cache of no group.
+    #[tactic(auto, using(crate::proofs::CachedQuiet::nothing_cached))]
     pub(crate) fn new(alloc: Global) -> QuietGroups
         ensures { (s : State) → IsTrueOf result s }
     {
@@ -201,6 +202,7 @@ impl QuietGroups {
     }
 
     /// Notes that a group is quiet from a moment until another, unless its next flush comes later.
+    #[tactic(auto, using(crate::proofs::CachedQuiet::kept_if))]
     pub(crate) fn note_quiet(&mut self, store: &Store, at: Moment, group: &RouteLabels, until: u128)
         requires cache { IsTrueOf self.old store.now.state }
         requires quiet { IsQuiet store.now.state group.now at until }
@@ -222,6 +224,7 @@ impl QuietGroups {
     // ---- what it forgets
 
     /// Forgets all.
+    #[tactic(auto, using(crate::proofs::CachedQuiet::nothing_cached))]
     pub(crate) fn clear(&mut self)
         ensures { (s : State) → IsTrueOf self.new s }
     {

@@ -20,6 +20,7 @@ pub(crate) const MOST_MOVES: usize = 1_000_000;
 
 /// Returns true only if one group alone is flushed more than `left` times up to a moment. It takes
 /// the groups in the order of their numbers, since it needs no other.
+#[tactic(auto, using(crate::proofs::Lasting::too_many))]
 pub(crate) fn is_one_beyond(store: &Store, at: Moment, left: usize) -> Result<bool, AllocError>
     requires { left ≤ move_limit }
     ensures { IfOk result (λ beyond. beyond ≡ true → advance left at store.now.state ≡ None) }

@@ -66,8 +66,7 @@ same_picked test from labels id old changed same unpicked =
 
 -- setting a silence changes no other
 set_others : (id : ℕ) (old : Silences) (silence : Option Silence) → SameOthers id old (set old id silence)
-set_others id old silence = λ other apart.
-    get-set nat_cmp_total old id silence other ∙ cond-false (eq_by_cmp nat_cmp other id) silence (get old other) (false_from_ne_true _ (λ e. apart (tells_apart nat_cmp-IsAntisymmetric other id e)))
+set_others id old silence = λ other apart. grind (arith, get-set nat_cmp_total old id silence other, tells_apart nat_cmp-IsAntisymmetric other id)
 
 -- and the silence with the id is the one that was set
 set_own : (id : ℕ) (old : Silences) (silence : Option Silence) → get (set old id silence) id ≡ silence

@@ -35,9 +35,6 @@ unmatched arrived bits n required labels matchers is lt at asked lacks =
 
 -- ---- a label set is listed under values
 
-some_or : {A : Type 0} (b : Bool) (a : A) (x : Option A) → is_some (cond b (Some a) x) ≡ (b || is_some x)
-some_or b a x = grind arith
-
 in_or_empty : (found : Option (Set label_set_cmp)) (other : LabelSet) → contains (unwrap_or found empty) other ≡ is_in found other
 in_or_empty None other = ap is_some (get-empty label_set_cmp other)
 in_or_empty (Some listed) other = refl
@@ -54,24 +51,12 @@ module _ (old gone changed : ByValues) (values : List Text) (listed : Set label_
         ap (λ m. contains m other) were ∙ in_or_empty (get (map_of values_cmp old) values) other
         ∙ ap (λ v. is_under old v other) (sym (tells_apart values_cmp-IsAntisymmetric under values same))
 
-    one_more : (labels : LabelSet) → listed ≡ insert was labels tt → (under : List Text) (other : LabelSet) (same : Bool) → eq_by_cmp values_cmp under values ≡ same
-        → is_in (cond same (Some listed) (get (map_of values_cmp old) under)) other ≡ ((same && eq_by_cmp label_set_cmp other labels) || is_under old under other)
-    one_more labels grown under other same is =
-        grind (arith, get-insert label_set_cmp_total was labels tt other, was_under under other)
-
-    no_more : listed ≡ was → (under : List Text) (other : LabelSet) (same : Bool) → eq_by_cmp values_cmp under values ≡ same
-        → is_in (cond same (Some listed) (get (map_of values_cmp old) under)) other ≡ is_under old under other
-    no_more kept under other same is = grind (arith, was_under under other)
-
     -- the set under the values takes in a label set, or it stays as it was
     pub listed_or_same : {A E : Type 0} (r : Result A E) (labels : LabelSet) → OnOk r (listed ≡ insert was labels tt) → OnErr r (listed ≡ was) → OnOk r (IsListedToo values labels old changed) × OnErr r (ListsSame old changed)
-    listed_or_same (Ok _) labels grown kept = (λ under other. ap (λ found. is_in found other) (replaced under) ∙ one_more labels grown under other (eq_by_cmp values_cmp under values) refl, tt)
-    listed_or_same (Err _) labels grown kept = (tt, λ under other. ap (λ found. is_in found other) (replaced under) ∙ no_more kept under other (eq_by_cmp values_cmp under values) refl)
+    listed_or_same (Ok _) labels grown kept = (λ under other. grind (arith, replaced under, get-insert label_set_cmp_total was labels tt other, was_under under other), tt)
+    listed_or_same (Err _) labels grown kept = (tt, λ under other. grind (arith, replaced under, was_under under other))
 
 -- ---- a label set is taken in
-
-put_is : (m v h same s : Bool) → (same ≡ true → s ≡ (m && v)) → ((m && (v && same)) || (h && s)) ≡ ((h || same) && s)
-put_is m v h same s is = grind arith
 
 -- a side that takes in the next label set lists those of one label set more
 pub side_seen : (arrived : List LabelSet) (old put new : CachedSide) (labels : LabelSet) → ListsSide arrived old → old.covered < length arrived → labels ≡ get_or arrived old.covered labels
@@ -151,13 +136,9 @@ module _ (m : Alerts) where
   sorted_got [] s = tt
   sorted_got (x ∷ l) s = sorted_one x.0 (get m x.0) (stored_of m (firsts l)) (all_below x.0 l (first _ _ s)) (sorted_got l (second _ _ s))
 
-  find_one : (q x : LabelSet) (alert : Option Alert) (rest : List (LabelSet × Alert)) (same listed : Bool) → get m x ≡ alert → eq_by_cmp label_set_cmp q x ≡ same → find label_set_cmp q rest ≡ cond listed (get m q) None
-      → find label_set_cmp q (cons_option (option_map (λ a. (x, a)) alert) rest) ≡ cond (same || listed) (get m q) None
-  find_one q x alert rest same listed at e h = grind (arith, tells_apart label_set_cmp-IsAntisymmetric q x)
-
   find_got : (q : LabelSet) (l : List (LabelSet × Unit {0})) → find label_set_cmp q (stored_of m (firsts l)) ≡ cond (is_some (find label_set_cmp q l)) (get m q) None
   find_got q [] = refl
-  find_got q (x ∷ l) = grind (arith, find_one q x.0 (get m x.0) (stored_of m (firsts l)) (eq_by_cmp label_set_cmp q x.0) (is_some (find label_set_cmp q l)) refl refl (find_got q l))
+  find_got q (x ∷ l) = grind (arith, find_got q l, tells_apart label_set_cmp-IsAntisymmetric q x.0)
 
   kept_alike : (arrived test : Bool) (found : Option Alert) → (is_some found ≡ true → arrived ≡ true) → cond (arrived && test) found None ≡ cond test found None
   kept_alike arrived test found h = grind arith

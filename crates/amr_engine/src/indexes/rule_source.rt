@@ -340,6 +340,7 @@ fn size_of(cached: &CachedSide) -> usize {
 
 /// Takes in at a side the first of the label sets that it hasn't seen, given the bits that its
 /// matchers ask for and those of the label sets' values.
+#[tactic(auto, using(crate::proofs::IndexesLemmas::Sources::unmatched))]
 fn list_next(
     alloc: Global,
     answers: &mut MatchCache,

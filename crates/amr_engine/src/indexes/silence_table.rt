@@ -388,6 +388,7 @@ impl SilenceTable {
 
 /// Notes that a silence changes. Forgets all that is cached of label sets if there have been many
 /// changes, or if there is no room for one more. It takes no memory.
+#[tactic(auto, using(crate::proofs::IndexesLemmas::CachedSilences::noted_more))]
 fn note_change(
     alloc: Global,
     cached: &mut Vec<Option<CachedPeriods>>,

@@ -1,14 +1,6 @@
 use Rattle.std.proofs.Common.{sym, arith}
-use Rattle.amr_engine.proofs.Ahead.{none_made, none_lighter, part_made, part_weighs}
+use Rattle.amr_engine.proofs.Ahead.{part_made, part_weighs}
 use Rattle.amr_engine.proofs.calm.make_at_once.Goals as goal
-
-pub returns-in-None-clause-made : goal.returns-in-None-clause-made
-returns-in-None-clause-made c = none_made c.args.left c.args.at c.args.store.now.state
-
-pub returns-in-None-clause-grown : goal.returns-in-None-clause-grown
-returns-in-None-clause-grown c =
-    let same = none_lighter c.args.left c.args.at c.args.store.now.state in
-    omega (arith, same)
 
 pub returns-in_ok-made-in-Some-clause-made : goal.returns-in_ok-made-in-Some-clause-made
 returns-in_ok-made-in-Some-clause-made c =

@@ -10,6 +10,3 @@ pub returns-in-None : goal.returns-in-None
 returns-in-None c =
     unknown_left route_labels_cmp_total route_labels_cmp-IsAntisymmetric _ c.args.group.now
     (sym c.look_up_number-number.ensures.value ∙ none_placed c.look_up_number-number.result.0 c.look_up_number-number.result.1 c.in-None.is c.look_up_number-number.ensures.placed)
-
-pub returns-in-Some : goal.returns-in-Some
-returns-in-Some c = c.swap_at.ensures.shown c.args.group.now (sym c.look_up_number-number.ensures.number ∙ c.in-Some.is)

@@ -47,10 +47,6 @@ invariant_of-self-in-Ok c =
           c.self.invariant.2,
     )
 
-pub returns-in-Ok-clause-state : goal.returns-in-Ok-clause-state
-returns-in-Ok-clause-state c =
-    c.close.ensures.state ∙ c.in-Ok.ensures.settled.state ∙ ap (λ (state : State). after_event state c.args.event.now) (c.in_ok-begin.ensures.state ∙ ap (λ (v : Steps). v.state) c.self.view_is)
-
 pub returns-in-Ok-clause-past : goal.returns-in-Ok-clause-past
 returns-in-Ok-clause-past c =
     past_is c.begin.new.self c.attempt.new.store c.in-Ok.ensures.settled.undone_is c.close.new.self c.close.ensures.state c.close.ensures.records

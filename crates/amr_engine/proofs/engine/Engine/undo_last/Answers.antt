@@ -2,11 +2,8 @@ use Rattle.std.proofs.Common.{sym, ap, ◌∙◌, ◌++◌, ◌∷◌, []}
 use Rattle.amr_engine.specs.State.Steps.{Steps}
 use Rattle.amr_engine.specs.State.Records.{befores}
 use Rattle.amr_engine.proofs.PlacedRuns.{undone_stays}
-use Rattle.amr_engine.proofs.Settling.{some_record, is_idle, past_undone, records_undone}
+use Rattle.amr_engine.proofs.Settling.{is_idle, past_undone, records_undone}
 use Rattle.amr_engine.proofs.engine.Engine.undo_last.Goals as goal
-
-pub reopen-requires-clause-some : goal.reopen-requires-clause-some
-reopen-requires-clause-some c = some_record c.self.inside.store c.args.self.now.past (ap (λ (v : Steps). v.past) c.self.view_is) c.requires
 
 pub invariant_of-self : goal.invariant_of-self
 invariant_of-self c =
@@ -17,10 +14,6 @@ invariant_of-self c =
       undone_stays before.state after.state (befores before.records before.state) (befores after.records after.state)
           (past_undone before c.reopen.new.self after c.reopen.ensures.state c.reopen.ensures.records c.undo_open.ensures) c.self.invariant.2,
     )
-
-pub returns-clause-past : goal.returns-clause-past
-returns-clause-past c =
-    sym (ap (λ (v : Steps). v.past) c.self.view_is) ∙ past_undone c.self.inside.store c.reopen.new.self c.undo_open.new.self c.reopen.ensures.state c.reopen.ensures.records c.undo_open.ensures
 
 pub returns-clause-records : goal.returns-clause-records
 returns-clause-records c = (

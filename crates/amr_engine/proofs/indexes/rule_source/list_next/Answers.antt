@@ -1,5 +1,5 @@
-use Rattle.std.proofs.Common.{◌+◌, refl, sym, ap, ◌∙◌}
-use Rattle.amr_engine.proofs.IndexesLemmas.Sources.{side_seen, side_same, unmatched}
+use Rattle.std.proofs.Common.{◌+◌, refl, ap}
+use Rattle.amr_engine.proofs.IndexesLemmas.Sources.{side_seen, side_same}
 use Rattle.amr_engine.proofs.indexes.rule_source.list_next.Goals as goal
 
 pub returns-clause-lists : goal.returns-clause-lists
@@ -10,8 +10,3 @@ returns-clause-lists c =
 
 pub returns-in_err-list_source-clause-lists : goal.returns-in_err-list_source-clause-lists
 returns-in_err-list_source-clause-lists c = side_same c.args.arrived.now c.args.cached.now c.list_source.new.cached c.requires.lists c.in_err-list_source.ensures.err c.list_source.ensures.side c.list_source.ensures.covered
-
-pub list_source-requires : goal.list_source-requires
-list_source-requires c = λ lacks.
-    unmatched c.args.arrived.now c.args.bits.now c.args.cached.now.covered c.args.required c.index-arrived-number.result c.args.cached.now.side.source
-    c.requires.bits c.requires.left c.index-arrived-number.is c.requires.required (sym c.has_all-may_match.ensures ∙ lacks)

@@ -8,12 +8,6 @@ use Rattle.amr_engine.proofs.IndexesLemmas.Sources.{listed_or_same}
 use Rattle.amr_engine.proofs.indexes.rule_source.list_under.Goals.{After-swap_at-2}
 use Rattle.amr_engine.proofs.indexes.rule_source.list_under.Goals as goal
 
-pub swap_at-requires : goal.swap_at-requires
-swap_at-requires c = (c.in_ok-clone.field-0, c.in_ok-number.ensures.made)
-
-pub swap_at-requires-2 : goal.swap_at-requires-2
-swap_at-requires-2 c = (c.in_ok-clone.field-0, ap (find values_cmp c.in_ok-clone.field-0) c.swap_at.ensures.keys ∙ c.in_ok-number.ensures.made)
-
 -- the label set is listed, or nothing changed
 listed : (c : After-swap_at-2) → OnOk c.insert-inserted.result (IsListedToo c.args.values.now c.in_ok-labels.labels c.args.sources.now c.swap_at-2.new.self) × OnErr c.insert-inserted.result (ListsSame c.args.sources.now c.swap_at-2.new.self)
 listed c =

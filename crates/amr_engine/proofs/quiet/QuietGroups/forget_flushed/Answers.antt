@@ -18,6 +18,3 @@ returns-then-group-route_count c = λ s at same holds.
     (outlasts_flush c.args.self.now s c.args.group.now at
     (λ own. absurd (cc (c.has_own_path.ensures.1 (subst (λ (config : Config). HasOwnPath config c.args.group.now.route) same own), c.if-has_own_path.false)))
     (subst (λ (config : Config). c.args.group.now.route < length config.routes) (sym same) there)) holds
-
-pub returns-else-group-route_count : goal.returns-else-group-route_count
-returns-else-group-route_count c = λ s at same holds. c.clear.ensures (flush at c.args.group.now s)

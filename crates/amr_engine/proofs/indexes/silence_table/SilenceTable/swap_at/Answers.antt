@@ -1,13 +1,10 @@
-use Rattle.std.proofs.Common.{nat_cmp, ◌≡◌, ℕ, Some, sym, ap, subst, ◌∙◌}
-use Rattle.amr_tables.specs.Numbered.{Numbered, map_of, number_of, IsValueOf, IsSetAt, SamePlaces}
+use Rattle.std.proofs.Common.{nat_cmp, ◌≡◌, ℕ, Some, ap, ◌∙◌}
+use Rattle.amr_tables.specs.Numbered.{Numbered, map_of, number_of}
 use Rattle.amr_rules.specs.declared.silence.Silence.{Silence}
 use Rattle.amr_rules.specs.Silences.{Silences}
 use Rattle.amr_engine.specs.Indexes.CachedSilences.{change_of}
 use Rattle.amr_engine.proofs.IndexesLemmas.CachedSilences.{noted_right}
 use Rattle.amr_engine.proofs.indexes.silence_table.SilenceTable.swap_at.Goals as goal
-
-pub swap_at-requires : goal.swap_at-requires
-swap_at-requires c = (c.args.id.now, subst (λ (v : Numbered ℕ Silence). number_of nat_cmp v c.args.id.now ≡ Some c.args.number) (sym c.self.view_is) c.requires)
 
 pub invariant_of-self : goal.invariant_of-self
 invariant_of-self c =
@@ -21,12 +18,3 @@ invariant_of-self c =
       tt,
       c.note_change.ensures.noted before after right.0 right.1 c.self.invariant.2,
     )
-
-pub returns-clause-former : goal.returns-clause-former
-returns-clause-former c = subst (λ (v : Numbered ℕ Silence). IsValueOf nat_cmp v c.args.number c.swap_at.new.value) c.self.view_is c.swap_at.ensures.former c.args.id.now c.requires
-
-pub returns-clause-shown : goal.returns-clause-shown
-returns-clause-shown c = subst (λ (v : Numbered ℕ Silence). IsSetAt nat_cmp v c.args.number c.args.silence.now c.swap_at.new.self) c.self.view_is c.swap_at.ensures.shown c.args.id.now c.requires
-
-pub returns-clause-places : goal.returns-clause-places
-returns-clause-places c = subst (λ (v : Numbered ℕ Silence). SamePlaces nat_cmp v c.swap_at.new.self) c.self.view_is c.swap_at.ensures.places
