@@ -47,19 +47,13 @@ use Rattle.amr_engine.proofs.Listed.{none_left}
 
 -- a cache of no group is true of each state
 pub nothing_cached : (cache : QuietGroups) → quiet_times cache ≡ empty → cache.still ≡ None → (s : State) → IsTrueOf cache s
-nothing_cached cache times still s = record {
-  quiet = λ group time cached. absurd (cc (cached, ap (λ (m : Times). get m group) times, get-empty route_labels_cmp group));
-  still = λ period cached. absurd (cc (cached, still));
-}
+nothing_cached cache times still s = grind (arith, λ (group : RouteLabels). get-empty {X = QuietTime} route_labels_cmp group)
 
 -- one more group that is quiet, or none if there was no room
 pub kept_if : {T E : Type 0} (r : Result T E) (cache : QuietGroups) (table : Numbered RouteLabels QuietTime) (group : RouteLabels) (time : QuietTime) (s : State)
     → OnOk r (times_in table ≡ insert (quiet_times cache) group time) → OnErr r (times_in table ≡ quiet_times cache)
     → IsTrueTime cache.generation s group time.period time.generation → IsTrueOf cache s → IsTrueOf (record cache { times = table }) s
-kept_if r cache table group time s ok err is holds = record {
-  quiet = λ other its cached. grind (arith, now_cached (quiet_times cache) group time other its, holds.quiet other its);
-  still = holds.still;
-}
+kept_if r cache table group time s ok err is holds = grind (arith, now_cached (quiet_times cache) group time)
 
 -- what is cached of a group, in a later state and perhaps a later generation
 carried : (before now : ℕ) (s t : State) (group : RouteLabels) (period : Period) → t.config ≡ s.config → before ≤ now → (IsNotifiedIn s group period → IsNotifiedIn t group period)
@@ -123,12 +117,7 @@ outlasts_flush cache s flushed at shared there = λ group time cached notified.
 -- a group is quiet while it is cached so
 pub quiet_if_cached : (cache : QuietGroups) (s : State) (group : RouteLabels) (time : QuietTime) → get (quiet_times cache) group ≡ Some time
     → (time.generation ≡ None) ⊎ (time.generation ≡ Some cache.generation) → IsTrueOf cache s → IsQuiet s group time.period.from time.period.until
-quiet_if_cached cache s group time cached (inl always) holds =
-    let notified : IsNotifiedIn s group time.period = subst (IsTrueTime cache.generation s group time.period) always (holds.quiet group time cached) in
-    notified_quiet s group time.period.from time.period.until notified.notified
-quiet_if_cached cache s group time cached (inr present) holds =
-    let since : IsQuietSince cache.generation s group time.period cache.generation = subst (IsTrueTime cache.generation s group time.period) present (holds.quiet group time cached) in
-    since.quiet refl
+quiet_if_cached cache s group time cached present holds = grind (arith, holds.quiet group time cached, notified_quiet s group time.period.from time.period.until)
 
 -- a flush of a group that is cached as quiet sets the group timer and changes nothing else
 pub cached_quiet : (cache : QuietGroups) (s : State) (group : RouteLabels) (at : Moment) (time : QuietTime) → get (quiet_times cache) group ≡ Some time → time.period.from ≤ at → at < time.period.until
@@ -170,9 +159,6 @@ unmuted cache s alerts silences = λ group time cached. beside_notified s s.mome
 ruleless : (at : Moment) (labels : LabelSet) (a b : Alerts) (rules : List InhibitRule) → rules ≡ [] → inhibition_from 0 at labels a rules ≡ inhibition_from 0 at labels b rules
 ruleless at labels a b rules none = grind arith
 
-no_sources : (from until : Moment) (alerts : Alerts) (rules : List InhibitRule) → rules ≡ [] → no_source_ends from until rules alerts ≡ true
-no_sources from until alerts rules none = grind arith
-
 module _ (s : State) (alerts : Alerts) (none : s.config.rules ≡ []) where
   taken_alike : (at : Moment) (route : ℕ) (labels : LabelSet) → taken_away (record s { alerts = alerts }) at route labels ≡ taken_away s at route labels
   unfolding taken_away
@@ -181,7 +167,7 @@ module _ (s : State) (alerts : Alerts) (none : s.config.rules ≡ []) where
       (ruleless at labels alerts s.alerts s.config.rules none)
 
   still_unruled : (from until : Moment) → IsStill s from until → IsStill (record s { alerts = alerts }) from until
-  still_unruled from until still = record { sources = no_sources from until alerts s.config.rules none; silences = still.silences }
+  still_unruled from until still = record { sources = grind arith; silences = still.silences }
 
   quiet_unruled : (group : RouteLabels) (from until : Moment) → IsQuiet s group from until → IsQuiet (record s { alerts = alerts }) group from until
   unfolding IsQuiet members
@@ -211,10 +197,9 @@ outside_later from at until end m later sooner out = grind (arith, nat_tests)
 module _ (from at until end : Moment) (later : from ≤ at) (sooner : end ≤ until) where
   silences_later : (stored : List (ℕ × Silence)) → list_all (λ one. is_outside from until one.1.starts_at && is_outside from until one.1.ends_at) stored ≡ true
       → list_all (λ one. is_outside at end one.1.starts_at && is_outside at end one.1.ends_at) stored ≡ true
-  silences_later = all_weaker (λ (one : ℕ × Silence). is_outside from until one.1.starts_at && is_outside from until one.1.ends_at)
-      (λ (one : ℕ × Silence). is_outside at end one.1.starts_at && is_outside at end one.1.ends_at) (λ one out.
-      let parts = and_parts (is_outside from until one.1.starts_at) (is_outside from until one.1.ends_at) out in
-      (λ i. outside_later from at until end one.1.starts_at later sooner parts.0 i && outside_later from at until end one.1.ends_at later sooner parts.1 i))
+  silences_later [] out = refl
+  silences_later (one ∷ stored) out =
+      grind (arith, silences_later stored, outside_later from at until end one.1.starts_at later sooner, outside_later from at until end one.1.ends_at later sooner)
 
   sources_later : (rules : List InhibitRule) (alerts : Alerts) → no_source_ends from until rules alerts ≡ true → no_source_ends at end rules alerts ≡ true
   sources_later [] alerts still = refl

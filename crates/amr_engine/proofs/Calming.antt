@@ -194,14 +194,10 @@ module _ (at : Moment) where
       let next : timer.next_flush + interval + suc k * interval ≡ timer.next_flush + suc (suc k) * interval = omega arith in
       let count : suc k + l ≡ suc (k + l) = omega arith in
       let one_more : 1 + suc k ≡ suc (suc k) = omega arith in
-      any_first (suc k + l) s group timer calm timed soon
-      ∙ ap (λ n. plus_moves (counted_run (advance n at (once s group timer))) 1) count
-      ∙ ap (λ r. plus_moves r 1) (all_first k l (once s group timer) group after (once_calm s group timer calm timed soon) (get-inserted route_labels_cmp_total route_labels_cmp-IsAntisymmetric s.timers group after) rest)
-      ∙ plus_twice (counted_run (advance l at (later_by (once s group timer) group after (suc k)))) (suc k) 1
-      ∙ ap (plus_moves (counted_run (advance l at (later_by (once s group timer) group after (suc k))))) one_more
-      ∙ ap (λ (timers : Timers). plus_moves (counted_run (advance l at (record s { timers = timers }))) (suc (suc k)))
-      (set_again s.timers group after (record timer { next_flush = timer.next_flush + interval + suc k * interval; flushed = true })
-      ∙ ap (λ n. insert s.timers group (record timer { next_flush = n; flushed = true })) next)
+      let more = all_first k l (once s group timer) group after (once_calm s group timer calm timed soon) (get-inserted route_labels_cmp_total route_labels_cmp-IsAntisymmetric s.timers group after) rest in
+      let twice = plus_twice (counted_run (advance l at (later_by (once s group timer) group after (suc k)))) (suc k) 1 in
+      let again = set_again s.timers group after (record timer { next_flush = timer.next_flush + interval + suc k * interval; flushed = true }) in
+      grind (arith, any_first (suc k + l) s group timer calm timed soon, more, twice, again, next, count, one_more)
 
   -- if they are more than the limit, the moves are
   pub over_first : (l : ℕ) (s : State) (group : RouteLabels) (timer : GroupTimer) → IsCalm at s → get s.timers group ≡ Some timer

@@ -7,11 +7,10 @@ use Rattle.amr_engine.specs.Runs.{after_step}
 use Rattle.amr_engine.specs.Events.{move_limit}
 use Rattle.amr_engine.specs.State.Dues.{Due, next_due}
 use Rattle.amr_engine.specs.Moves.{move, advance, counted_run, plus_moves}
-use Rattle.amr_engine.proofs.RunsLaws.{run_holds}
+use Rattle.amr_engine.proofs.RunsLaws.{run_holds, run_within-complete}
 
 pub advance_none : (n : ℕ) (at : Moment) (s : State) → next_due at s ≡ None → counted_run (advance n at s) ≡ Some (0, s)
-advance_none zero at s e = ap (λ (o : Option Due). counted_run (option_map_or (λ d. None) o (Some ([], s)))) e
-advance_none (suc n) at s e = ap (λ (o : Option Due). counted_run (option_map_or (λ d. option_map (after_step (next_due at) move d) (advance n at (move d s))) o (Some ([], s)))) e
+advance_none n at s e = ap counted_run (run_within-complete (next_due at) move n s [] s (e, refl) (omega arith))
 
 pub advance_over : (at : Moment) (s : State) (d : Due) → next_due at s ≡ Some d → counted_run (advance 0 at s) ≡ None
 advance_over at s d e = ap (λ (o : Option Due). counted_run (option_map_or (λ d. None) o (Some ([], s)))) e

@@ -62,16 +62,11 @@ from_map f d [] h = absurd h
 from_map f d (x ∷ es) (inl is) = (x, listed_first x es, is)
 from_map f d (x ∷ es) (inr h) = let r = from_map f d es h in (r.0, listed_later x r.0 es r.1, r.2)
 
-pub from_filter_map : {A : Type 0} (f : A → Option Due) (d : Due) (es : List A) → IsIn d (filter_map f es) → (e : A) × Contains es e × (f e ≡ Some d)
-from_filter_map f d [] h = absurd h
-from_filter_map {A} f d (x ∷ es) h =
-    elim (f x) as (λ o. f x ≡ o → IsIn d (cons_option o (filter_map f es)) → (e : A) × Contains (x ∷ es) e × (f e ≡ Some d)) [
-      | None ↦ λ is h. let r = from_filter_map f d es h in (r.0, listed_later x r.0 es r.1, r.2)
-      | Some y ↦ λ is. elim [
-        | inl same ↦ (x, listed_first x es, is ∙ ap (λ (z : Due). Some z) (sym same))
-        | inr h ↦ let r = from_filter_map f d es h in (r.0, listed_later x r.0 es r.1, r.2)
-      ]
-    ] refl h
+-- what holds if any entry makes the due, holds if the due is among what they make
+from_filter_map : {A : Type 0} (f : A → Option Due) (P : Type 0) (d : Due) (es : List A) → ((e : A) → Contains es e → f e ≡ Some d → P) → IsIn d (filter_map f es) → P
+from_filter_map f P d [] holds h = absurd h
+from_filter_map f P d (x ∷ es) holds h =
+    grind (arith, holds x (listed_first x es), from_filter_map f P d es (λ e has. holds e (listed_later x e es has)))
 
 flush_is_due : (s : State) (group : RouteLabels) (timer : GroupTimer) → get s.timers group ≡ Some timer → IsIn (flush_of (group, timer)) (dues s)
 unfolding dues
@@ -91,9 +86,6 @@ removal_of group since = removal_at group (next_multiple_of since (30 * second))
 module _ (alerts : Alerts) (timers : Timers) (P : Due → Type 0) (removed : (labels : LabelSet) (alert : Alert) → get alerts labels ≡ Some alert → P (alert_removal_of (labels, alert)))
     (emptied : (group : RouteLabels) (timer : GroupTimer) (since : Moment) → get timers group ≡ Some timer → timer.empty_since ≡ Some since → P (removal_of group since))
     (flushed : (group : RouteLabels) (timer : GroupTimer) → get timers group ≡ Some timer → P (flush_of (group, timer))) (d : Due) where
-  if_emptied : (group : RouteLabels) (timer : GroupTimer) → get timers group ≡ Some timer → (o : Option Moment) → timer.empty_since ≡ o → option_map (removal_of group) o ≡ Some d → P d
-  if_emptied group timer timed o e is = grind (arith, emptied group timer)
-
   pub due_holds : IsIn d (dues_of alerts timers) → P d
   due_holds among = elim (in_either d (map alert_removal_of (entries alerts) ++ filter_map group_removal_of (entries timers)) (map flush_of (entries timers)) among) [
     | inl front ↦ elim (in_either d (map alert_removal_of (entries alerts)) (filter_map group_removal_of (entries timers)) front) [
@@ -101,8 +93,7 @@ module _ (alerts : Alerts) (timers : Timers) (P : Due → Type 0) (removed : (la
           let e = from_map alert_removal_of d (entries alerts) alert in
           subst P (sym e.2) (removed e.0.0 e.0.1 (get-among label_set_cmp_total label_set_cmp-IsAntisymmetric alerts e.0.0 e.0.1 e.1))
       | inr empty ↦
-          let e = from_filter_map group_removal_of d (entries timers) empty in
-          if_emptied e.0.0 e.0.1 (timer_got timers e.0.0 e.0.1 e.1) e.0.1.empty_since refl e.2
+          from_filter_map group_removal_of (P d) d (entries timers) (λ e has is. grind (arith, emptied e.0 e.1, timer_got timers e.0 e.1 has)) empty
     ]
     | inr flushes ↦
         let e = from_map flush_of d (entries timers) flushes in

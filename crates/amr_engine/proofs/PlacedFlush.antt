@@ -32,11 +32,7 @@ still_resolved at later alert order fires = grind (arith, nat_tests)
 
 -- fewer alerts are unresolved later
 pub placed_later : (at later : Moment) (s : State) → at ≤ later → IsPlaced at s → IsPlaced later s
-placed_later at later s order placed = record {
-  copied = λ labels alert is fires. placed.copied labels alert is (still_resolved at later alert order fires);
-  chosen_only = placed.chosen_only;
-  timed = placed.timed;
-}
+placed_later at later s order placed = grind (arith, still_resolved at later)
 
 -- ---- a flush
 
@@ -52,11 +48,7 @@ module _ (group : RouteLabels) (change : GroupTimer → GroupTimer) (s : State) 
   set_timer_keeps keeps other timed = grind (arith, key_or_apart other group, set_timer_same keeps, set_timer_apart other)
 
   timer_reset : (at : Moment) → ((timer : GroupTimer) → timer.empty_since ≡ None → (change timer).empty_since ≡ None) → IsPlaced at s → IsPlaced at (set_timer group change s)
-  timer_reset at keeps placed = record {
-    copied = placed.copied;
-    chosen_only = placed.chosen_only;
-    timed = λ member copy e. set_timer_keeps keeps (group_key s.config member) (placed.timed member copy e);
-  }
+  timer_reset at keeps placed = grind (arith, λ (member : RouteLabels). set_timer_keeps keeps (group_key s.config member))
 
 -- the state with some other log and other notifications
 record Noted (s t : State) : Type 0 where

@@ -112,10 +112,6 @@ module _ (s : State) (labels : LabelSet) (alert : Alert) where
   unfolding insert_into_groups
   inserted_in_groups = on_each_in_groups labels alert (chosen_routes s.config labels) s (All-contains_itself (chosen_routes s.config labels))
 
-  inserted_still : (n : ℕ) → get s.placements (on_route n labels) ≡ Some alert → get (insert_into_groups s (labels, alert)).placements (on_route n labels) ≡ Some alert
-  unfolding insert_into_groups
-  inserted_still = on_each_still labels alert (chosen_routes s.config labels) s
-
   inserted_placed : (n : ℕ) → Contains (chosen_routes s.config labels) n → get (insert_into_groups s (labels, alert)).placements (on_route n labels) ≡ Some alert
   unfolding insert_into_groups
   inserted_placed = on_each_placed labels alert (chosen_routes s.config labels) s
@@ -140,14 +136,9 @@ module _ (at : Moment) (s : State) (labels : LabelSet) (stored : Alert) where
   -- the alert itself is on its routes, and the others are where they were
   store_copied : IsPlaced at s → (asked : LabelSet) (found : Alert) → get (insert s.alerts labels stored) asked ≡ Some found → is_resolved_at at found ≡ false
       → (route : ℕ) → Contains (chosen_routes s.config asked) route → get after.placements (on_route route asked) ≡ Some found
-  store_copied placed asked found e fires route takes = elim (labels_or_apart asked labels) [
-    | inl same ↦
-        let here = inserted_placed with_stored labels stored route (subst (λ (l : LabelSet). Contains (chosen_routes s.config l) route) same takes) in
-        grind (arith, here, get-inserted label_set_cmp_total label_set_cmp-IsAntisymmetric s.alerts labels stored)
-    | inr apart ↦
-        inserted_others with_stored labels stored (on_route route asked) apart.0
-        ∙ placed.copied asked found (sym (get-insert_apart label_set_cmp_total label_set_cmp-IsAntisymmetric s.alerts labels stored asked apart.1) ∙ e) fires route takes
-  ]
+  store_copied placed asked found e fires route takes =
+      grind (arith, labels_or_apart asked labels, inserted_placed with_stored labels stored route, get-inserted label_set_cmp_total label_set_cmp-IsAntisymmetric s.alerts labels stored,
+      inserted_others with_stored labels stored (on_route route asked), get-insert_apart label_set_cmp_total label_set_cmp-IsAntisymmetric s.alerts labels stored asked, placed.copied asked found)
 
   stored_is_placed : IsPlaced at s → IsPlaced at after
   stored_is_placed placed = record {
@@ -197,7 +188,8 @@ module _ (labels : LabelSet) (alert : Alert) where
   Agrees e = e.0 ≡ labels → e.1 ≡ alert
 
   placed_again : (s : State) (e : LabelSet × Alert) (n : ℕ) → Agrees e → get s.placements (on_route n labels) ≡ Some alert → get (insert_into_groups s e).placements (on_route n labels) ≡ Some alert
-  placed_again s e n agrees is = grind (arith, labels_or_apart labels e.0, inserted_still s labels alert n, inserted_others s e.0 e.1 (on_route n labels))
+  unfolding insert_into_groups
+  placed_again s e n agrees is = grind (arith, labels_or_apart labels e.0, on_each_still labels alert (chosen_routes s.config labels) s n, on_each_others e.0 e.1 (chosen_routes s.config e.0) s (on_route n labels))
 
   fold_again : (es : List (LabelSet × Alert)) (s : State) (n : ℕ) → All Agrees es → get s.placements (on_route n labels) ≡ Some alert → get (fold insert_into_groups s es).placements (on_route n labels) ≡ Some alert
   fold_again [] s n agree is = is

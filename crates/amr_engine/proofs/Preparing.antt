@@ -43,11 +43,7 @@ same_valid s next at timeout posted stays same =
 pub some_valid : (s : State) (at : Moment) (timeout : Span) (posted : Bor (List PostedAlert)) → timeout ≡ s.config.resolve_timeout
     → (length (filter_map (completed_alert at timeout) posted.now) == 0) ≡ false → DoesAsPrepared s at (Act.Post posted.now) (prepared.Put posted)
 unfolding after_act
-some_valid s at timeout posted same some = record {
-  does = λ next stays. put_some next (valid_alerts next posted.now) (ap (λ (v : Valid). length v == 0) (same_valid s next at timeout posted.now stays same) ∙ some);
-  skips = λ next stays i. skipped_from 1 (stays.moment i) (stays.config i).resolve_timeout posted.now;
-  light = λ next after stays. omega arith;
-}
+some_valid s at timeout posted same some = grind (arith, λ (next : State). put_some next (valid_alerts next posted.now), λ (next : State). same_valid s next at timeout posted.now)
 
 -- there is a reason against a silence
 pub no_silence : (s : State) (at : Moment) (posted : PostedSilence) (reason : Reason) → Err reason ≡ after_post at posted s.silences

@@ -63,9 +63,7 @@ module _ (from until at : Moment) (not_before : from ≤ at) (before : at < unti
 
   silences_same : (labels : LabelSet) (stored : ℕ × Silence) → (is_outside from until stored.1.starts_at && is_outside from until stored.1.ends_at) ≡ true
       → silences_labels at stored.1 labels ≡ silences_labels from stored.1 labels
-  silences_same labels stored out =
-      let parts = and_parts (is_outside from until stored.1.starts_at) (is_outside from until stored.1.ends_at) out in
-      (λ i. (past_same stored.1.starts_at parts.0 i && ahead_same stored.1.ends_at parts.1 i) && Rattle.amr_labels.specs.Matcher.Matchers.all_hold stored.1.matchers labels)
+  silences_same labels stored out = grind (arith, past_same stored.1.starts_at, ahead_same stored.1.ends_at)
 
   silencer_same : (silences : Silences) → no_silence_turns from until silences ≡ true → (labels : LabelSet) → silencer_of at labels silences ≡ silencer_of from labels silences
   silencer_same silences still labels =
