@@ -1,10 +1,9 @@
 -- The cache of quiet groups, and what keeps it true of the state.
-use Rattle.std.proofs.Common.{[], ◌≡◌, ℕ, Bool, true, ◌&&◌, List, ◌∷◌, Option, Some, None, Result, option_map, ◌≤◌, ◌<◌, ◌+◌, nat_le, ◌==◌, length, ◌⊎◌, OnOk, OnErr, refl, sym, ap, ◌∙◌, subst, arith, get_or, drop, inl, inr}
+use Rattle.std.proofs.Common.{[], ◌≡◌, ℕ, Bool, true, ◌&&◌, List, ◌∷◌, Option, Some, None, Result, option_map, ◌≤◌, ◌<◌, ◌+◌, nat_le, ◌==◌, length, ◌⊎◌, OnOk, OnErr, refl, sym, ap, ◌∙◌, subst, arith, get_or, drop, inl}
 use Rattle.std.specs.Option.{option_or, is_none}
 use Rattle.std.specs.List.{list_all, filter}
 use Rattle.std.proofs.lemmas.List.{at_drop_more}
 use Rattle.std.proofs.lemmas.Bool.Decides.{nat_tests}
-use Rattle.std.proofs.lemmas.Bool.{and_parts}
 use Rattle.std.proofs.lemmas.List.Sums.{list_all-from_AllPass}
 use Rattle.std.proofs.lemmas.Result.{on_ok_weaker}
 use Rattle.amr_labels.specs.Map.{Map, entries, get, insert, remove, empty, get-empty}
@@ -36,7 +35,7 @@ use Rattle.amr_engine.specs.declared.quiet.QuietGroups.{QuietGroups}
 use Rattle.amr_engine.specs.Events.{put}
 use Rattle.amr_engine.specs.Flush.{Members, let_through, flush}
 use Rattle.amr_engine.specs.Quiet.{is_outside, no_alert_ends, no_source_ends, no_silence_turns, all_fire_until, is_untimed, no_repeat_before, is_notified, are_notified, with_timer_reset, IsStill, IsQuiet, IsQuietWith, IsAllNotified, LeavesOthers}
-use Rattle.amr_engine.specs.CachedQuiet.{Times, times_in, quiet_times, IsNotifiedIn, IsQuietSince, IsTrueTime, IsTrueOf, Outlasts, without_joined}
+use Rattle.amr_engine.specs.CachedQuiet.{Times, times_in, quiet_times, IsNotifiedIn, IsTrueTime, IsTrueOf, Outlasts, without_joined}
 use Rattle.amr_engine.proofs.FewerNotified.{all_weaker}
 use Rattle.amr_engine.proofs.QuietLaws.{still_alike, quiet_alike, quiet_flush, notified_quiet, stays_quiet}
 use Rattle.amr_engine.proofs.NotifiedStays.{beside_notified, left_notified, other_key, still_cached, now_cached, left_by_post}

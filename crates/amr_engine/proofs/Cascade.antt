@@ -1,5 +1,5 @@
 -- The moves of an event, counted one after another.
-use Rattle.std.proofs.Common.{[], ◌≡◌, false, ℕ, suc, zero, ◌+◌, ◌-◌, ◌<◌, ◌≤◌, List, Option, None, Some, refl, sym, ap, subst, ◌∙◌, arith}
+use Rattle.std.proofs.Common.{[], ◌≡◌, false, ℕ, suc, ◌+◌, ◌-◌, ◌<◌, ◌≤◌, List, Option, None, Some, refl, sym, ap, subst, ◌∙◌, arith}
 use Rattle.std.specs.Option.{option_map, option_map_or, is_some}
 use Rattle.amr_time.specs.Time.{Moment}
 use Rattle.amr_engine.specs.State.State.{State}

@@ -1,6 +1,6 @@
 -- More moves are due than the limit if one group alone is flushed more often.
 use Rattle.std.proofs.Common.{[], ◌≡◌, ℕ, zero, suc, true, false, List, ◌∷◌, ◌++◌, Option, Some, None, length, ◌≤◌, ◌<◌, ◌+◌, ◌-◌, ◌*◌, ◌==◌, map, option_map, ◌⊎◌, refl, sym, ap, ◌∙◌, subst, inl, inr, arith}
-use Rattle.std.specs.List.{Contains, fold, filter_map, cons_option}
+use Rattle.std.specs.List.{Contains, fold, filter_map}
 use Rattle.std.specs.Option.{option_map_or}
 use Rattle.amr_labels.specs.Map.{Map, get, insert, entries, get-remove}
 use Rattle.amr_labels.specs.Labels.{LabelSet, label_set_cmp_total, label_set_cmp-IsAntisymmetric}

@@ -14,7 +14,7 @@ use Rattle.amr_engine.specs.Moves.{move, move_of_kind}
 use Rattle.amr_engine.specs.Said.{IsIn}
 use Rattle.amr_engine.specs.Placed.{IsTimed, IsPlaced}
 use Rattle.amr_engine.proofs.PlacedLists.{get-remove_apart, get-before_remove}
-use Rattle.amr_engine.proofs.PlacedPosts.{key_or_apart, timed_as}
+use Rattle.amr_engine.proofs.PlacedPosts.{key_or_apart}
 use Rattle.amr_engine.proofs.PlacedFlush.{flush_placed}
 use Rattle.amr_engine.proofs.Lasting.{due_holds}
 

@@ -1,5 +1,5 @@
 -- Posts and reloads leave the alerts placed.
-use Rattle.std.proofs.Common.{[], ◌≡◌, ℕ, false, List, ◌∷◌, ◌⊎◌, Option, Some, None, All, Contains, fold, refl, sym, ap, ◌∙◌, subst, arith, inl, inr}
+use Rattle.std.proofs.Common.{[], ◌≡◌, ℕ, false, List, ◌∷◌, ◌⊎◌, Option, Some, None, All, Contains, fold, refl, sym, ap, ◌∙◌, subst, arith}
 use Rattle.std.specs.Ordering.{eq_by_cmp}
 use Rattle.std.proofs.lemmas.List.Elements.{All-head, All-tail, All-weaker, All-contains_itself}
 use Rattle.amr_labels.specs.Map.{get, insert, entries, empty, get-empty, get-insert}

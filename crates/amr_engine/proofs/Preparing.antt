@@ -16,7 +16,7 @@ use Rattle.amr_rules.specs.Silences.{after_post, after_expiry, expired_form}
 use Rattle.amr_rules.specs.Silencing.{with_decision}
 use Rattle.amr_engine.specs.State.State.{State}
 use Rattle.amr_engine.specs.declared.prepare.Prepared.TheVariants as prepared
-use Rattle.amr_engine.specs.Events.{after_act, at_moment, on_ok, put, put_all, valid_alerts, skipped_from, with_silences, with_config}
+use Rattle.amr_engine.specs.Events.{after_act, at_moment, on_ok, put, put_all, valid_alerts, with_silences}
 use Rattle.amr_engine.specs.Prepared.{DoesAsPrepared, Stays}
 use Rattle.amr_engine.proofs.Listed.{none_left}
 

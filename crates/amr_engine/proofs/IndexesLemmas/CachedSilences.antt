@@ -7,10 +7,10 @@ use Rattle.std.proofs.Math.ListN.{get_or-append}
 use Rattle.std.proofs.Math.Seq.{get_or-append_seam}
 use Rattle.std.specs.Slice.{IsItemAt}
 use Rattle.std.proofs.lemmas.List.Elements.{All-nil, All-weaker, filter_agree}
-use Rattle.std.specs.Ordering.{is_eq, eq_by_cmp, nat_cmp}
+use Rattle.std.specs.Ordering.{is_eq, nat_cmp}
 use Rattle.std.specs.Cmp.{nat_cmp_total, tied_itself}
 use Rattle.std.specs.FinMap.{nat_cmp-IsAntisymmetric}
-use Rattle.std.proofs.lemmas.Bool.{true≢false, cond-false, false_from_ne_true}
+use Rattle.std.proofs.lemmas.Bool.{true≢false}
 use Rattle.std.proofs.Math.Bool.{and_comm}
 use Rattle.std.proofs.lemmas.Map.Views.{tells_apart}
 use Rattle.amr_labels.specs.Map.{entries, empty, from_sorted, entries-from_sorted, same_entries_map, get, set, retain_keys, entries-retain_keys, get-set, get-retain_keys, same_map}
