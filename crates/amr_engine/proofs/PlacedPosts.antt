@@ -137,8 +137,15 @@ module _ (at : Moment) (s : State) (labels : LabelSet) (stored : Alert) where
   store_copied : IsPlaced at s → (asked : LabelSet) (found : Alert) → get (insert s.alerts labels stored) asked ≡ Some found → is_resolved_at at found ≡ false
       → (route : ℕ) → Contains (chosen_routes s.config asked) route → get after.placements (on_route route asked) ≡ Some found
   store_copied placed asked found e fires route takes =
-      grind (arith, labels_or_apart asked labels, inserted_placed with_stored labels stored route, get-inserted label_set_cmp_total label_set_cmp-IsAntisymmetric s.alerts labels stored,
-      inserted_others with_stored labels stored (on_route route asked), get-insert_apart label_set_cmp_total label_set_cmp-IsAntisymmetric s.alerts labels stored asked, placed.copied asked found)
+      grind (
+        arith,
+        labels_or_apart asked labels,
+        inserted_placed with_stored labels stored route,
+        get-inserted label_set_cmp_total label_set_cmp-IsAntisymmetric s.alerts labels stored,
+        inserted_others with_stored labels stored (on_route route asked),
+        get-insert_apart label_set_cmp_total label_set_cmp-IsAntisymmetric s.alerts labels stored asked,
+        placed.copied asked found,
+      )
 
   stored_is_placed : IsPlaced at s → IsPlaced at after
   stored_is_placed placed = record {

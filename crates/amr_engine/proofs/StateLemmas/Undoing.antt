@@ -29,8 +29,14 @@ put_back-push (first ∷ rest) last s = ap (λ (x : State). after_change x first
 pub put_back-change : (t : Tables) (change : Change) → IsAllowed change → after_change (after_change (shown_by t) change) (change_back t change) ≡ shown_by t
 put_back-change t change h =
     let s = shown_by t in
-    grind (arith, set-back label_set_cmp_total label_set_cmp-IsAntisymmetric s.alerts, set-back nat_cmp_total nat_cmp-IsAntisymmetric s.silences, set-back route_labels_cmp_total route_labels_cmp-IsAntisymmetric s.placements,
-    set-back route_labels_cmp_total route_labels_cmp-IsAntisymmetric s.timers, set-back log_key_cmp_total log_key_cmp-IsAntisymmetric s.log)
+    grind (
+      arith,
+      set-back label_set_cmp_total label_set_cmp-IsAntisymmetric s.alerts,
+      set-back nat_cmp_total nat_cmp-IsAntisymmetric s.silences,
+      set-back route_labels_cmp_total route_labels_cmp-IsAntisymmetric s.placements,
+      set-back route_labels_cmp_total route_labels_cmp-IsAntisymmetric s.timers,
+      set-back log_key_cmp_total log_key_cmp-IsAntisymmetric s.log,
+    )
 
 -- a change that is entered leaves what the open record gives
 pub put_back-entered : (entries : List Change) (t : Tables) (change : Change) → IsAllowed change → put_back (entries ++ change_back t change ∷ []) (after_change (shown_by t) change) ≡ put_back entries (shown_by t)
