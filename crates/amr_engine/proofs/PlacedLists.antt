@@ -6,7 +6,6 @@ use Rattle.std.specs.FinMap.{find, IsAntisymmetric}
 use Rattle.std.proofs.lemmas.Cmp.{tied_itself, eq_by_cmp_equiv}
 use Rattle.std.proofs.lemmas.Map.Views.{tells_apart, Contains-from_lookup}
 use Rattle.std.proofs.lemmas.List.Elements.{All-weaker, All-contains, All-filter, filter_passes, All-from_recursion}
-use Rattle.amr_labels.proofs.Sorted.{less}
 use Rattle.amr_labels.specs.Map.{Map, get, insert, remove, entries, get-insert, get-remove, get-entries, entries-sorted}
 use Rattle.amr_engine.proofs.Listed.{none_listed, listed_filter}
 use Rattle.amr_labels.proofs.Pairs.{own_values}
