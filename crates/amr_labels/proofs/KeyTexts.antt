@@ -1,74 +1,46 @@
 -- A sort key says of which labels it is, if it is known how many they are.
-use Rattle.std.proofs.Common.{arith, ◌≡◌, ◌≢◌, ◌==◌, ℕ, zero, suc, ◌<◌, ◌≤◌, ◌+◌, List, [], ◌∷◌, ◌++◌, Bool, true, false, length, get_or, take, drop, nat_eq, Bor, Option, Some, None, MatchOption, refl, sym, ap, ◌∙◌, IfSome, IfNone}
-use Rattle.std.specs.List.{list_any}
-use Rattle.std.proofs.lemmas.Bool.{or_parts, true≢false}
+use Rattle.std.proofs.Common.{arith, ◌≡◌, ◌≢◌, ◌==◌, ℕ, zero, suc, ◌<◌, ◌≤◌, ◌+◌, List, [], ◌∷◌, ◌++◌, true, false, cond, length, get_or, take, drop, nat_eq, Bor, Option, Some, None, MatchOption, refl, sym, ap, ◌∙◌, IfSome, IfNone}
+use Rattle.std.specs.List.{count_by}
+use Rattle.std.specs.Cmp.{tied_itself}
+use Rattle.std.specs.Cmp.Lexicographic.{nat_list_cmp_total}
+use Rattle.std.specs.FinMap.{slice_cmp-IsAntisymmetric}
+use Rattle.std.proofs.lemmas.Bool.{true≢false}
+use Rattle.std.proofs.lemmas.Bool.Decides.{nat_tests}
 use Rattle.std.proofs.lemmas.List.{append_assoc, append_cancel_left, take-append-drop}
+use Rattle.std.proofs.lemmas.List.Sums.{sum_by-append}
+use Rattle.std.proofs.lemmas.Map.Lookups.{exact_pairs}
 use Rattle.std.proofs.Math.Seq.{take-append_seam, drop-append_seam}
-use Rattle.amr_labels.specs.Labels.{Text}
+use Rattle.amr_labels.specs.Labels.{Text, text_cmp, text_cmp-IsAntisymmetric}
 use Rattle.amr_labels.specs.SortKey.{key_of_text, key_of_label, sort_key, has_zero, has_zeros}
 use Rattle.amr_labels.specs.Lent.{lent_texts}
+use Rattle.amr_labels.proofs.SortKeys.{by_sort_key}
 use lib.Pointwise.{pointwise, bytes_decides}
 
--- the texts with their ends
-abbrev key_of : List Text → Text
-key_of [] = []
-key_of (text ∷ texts) = key_of_text text ++ key_of texts
+-- how many zeros a text has
+abbrev zeros : Text → ℕ
+zeros text = count_by (λ byte. byte == 0) text
 
-abbrev none_have_zeros : List Text → Bool
-none_have_zeros texts = list_any has_zero texts
+no_zeros : (text : Text) → (has_zero text ≡ false → zeros text ≡ 0) × (has_zero text ≡ true → 0 < zeros text)
+no_zeros [] = (λ h. refl, λ h. absurd (cc h))
+no_zeros (byte ∷ text) =
+    let more : zeros (byte ∷ text) ≡ 0 + cond (byte == 0) 1 0 + zeros text = sum_by-append (λ byte. cond (byte == 0) 1 0) (byte ∷ []) text in
+    grind (arith, nat_tests, no_zeros text)
 
-not_zero : (byte : ℕ) (text : Text) → has_zero (byte ∷ text) ≡ false → byte ≡ 0 → ⊥
-not_zero byte text h e = let none = (or_parts (byte == 0) (has_zero text) h).0 in grind (arith, none, e)
+zeros_of_label : (label : Text × Text) (rest : Text) → zeros (key_of_label label ++ rest) ≡ zeros label.0 + zeros label.1 + 2 + zeros rest
+zeros_of_label label rest = simp sum_by-append (omega arith)
 
-module _ (texts : List Text) (others_are : (others : List Text) → length texts ≤ length others → key_of texts ≡ key_of others → texts ≡ others) where
-  first_texts : (text other : Text) (others : List Text) → has_zero text ≡ false → length texts ≤ length others
-      → key_of_text text ++ key_of texts ≡ key_of_text other ++ key_of others → (text ≡ other) × (texts ≡ others)
-  first_texts [] [] others h l e = (refl, others_are others l (cc))
-  first_texts [] (b ∷ other) others h l e = let n = ap length (others_are (other ∷ others) (omega (arith, l)) (cc)) in absurd (omega (arith, n, l))
-  first_texts (a ∷ text) [] others h l e = absurd (not_zero a text h (cc))
-  first_texts (a ∷ text) (b ∷ other) others h l e = let rest = first_texts text other others (or_parts (a == 0) (has_zero text) h).1 l (cc) in ((cc), rest.1)
-
-same_texts : (texts others : List Text) → none_have_zeros texts ≡ false → length texts ≤ length others → key_of texts ≡ key_of others → texts ≡ others
-same_texts [] [] h l e = refl
-same_texts [] ([] ∷ others) h l e = cc
-same_texts [] (_ ∷ others) h l e = cc
-same_texts (text ∷ texts) [] h l e = absurd (omega (arith, l))
-same_texts (text ∷ texts) (other ∷ others) h l e =
-    let parts = or_parts (has_zero text) (none_have_zeros texts) h in
-    let are = first_texts texts (λ more. same_texts texts more parts.1) text other others parts.0 (omega (arith, l)) e in
-    cc
-
--- the names and the values, one after another
-abbrev texts_of : List (Text × Text) → List Text
-texts_of [] = []
-texts_of (label ∷ labels) = label.0 ∷ label.1 ∷ texts_of labels
-
-key_is : (labels : List (Text × Text)) → key_of (texts_of labels) ≡ sort_key labels
-key_is [] = refl
-key_is (label ∷ labels) = rw (key_is labels) (sym (append_assoc (key_of_text label.0) (key_of_text label.1) (sort_key labels)))
-
-no_zeros : (labels : List (Text × Text)) → has_zeros labels ≡ false → none_have_zeros (texts_of labels) ≡ false
-no_zeros [] h = refl
-no_zeros (label ∷ labels) h = grind (arith, no_zeros labels)
-
-count_is : (labels : List (Text × Text)) → length (texts_of labels) ≡ length labels + length labels
-count_is [] = refl
-count_is (label ∷ labels) = let n = count_is labels in omega (arith, n)
-
-labels_are : (labels others : List (Text × Text)) → texts_of labels ≡ texts_of others → labels ≡ others
-labels_are [] [] e = refl
-labels_are (label ∷ labels) (other ∷ others) e =
-    let rest = labels_are labels others (cc) in
-    λ i. (get_or (e i) 0 [], get_or (e i) 1 []) ∷ rest i
-labels_are _ _ e = cc
+-- a key has a zero for each end, and no other if no name and no value has one
+counted : (labels : List (Text × Text)) → (length labels + length labels ≤ zeros (sort_key labels))
+    × (has_zeros labels ≡ false → zeros (sort_key labels) ≡ length labels + length labels) × (has_zeros labels ≡ true → length labels + length labels < zeros (sort_key labels))
+counted [] = let none : zeros [] ≡ 0 = refl in (omega arith, λ h. none, λ h. absurd (cc h))
+counted (label ∷ labels) = grind (arith, zeros_of_label label (sort_key labels), no_zeros label.0, no_zeros label.1, counted labels)
 
 -- labels without a zero are those of any as many labels with their sort key
 pub of_sort_key : (labels others : List (Text × Text)) → has_zeros labels ≡ false → length labels ≡ length others → sort_key labels ≡ sort_key others → labels ≡ others
 of_sort_key labels others h count e =
-    let here = count_is labels in
-    let there = count_is others in
-    labels_are labels others
-    (same_texts (texts_of labels) (texts_of others) (no_zeros labels h) (omega (arith, here, there, count)) (key_is labels ∙ e ∙ sym (key_is others)))
+    let none : has_zeros others ≡ false = grind (arith, counted labels, counted others, ap zeros e) in
+    slice_cmp-IsAntisymmetric (exact_pairs text_cmp text_cmp text_cmp-IsAntisymmetric text_cmp-IsAntisymmetric) labels others
+    (sym (by_sort_key labels others h none) ∙ ap (text_cmp (sort_key labels)) (sym e) ∙ tied_itself nat_list_cmp_total (sort_key labels))
 
 begins : (key first rest : Text) → pointwise nat_eq (take (length first) key) first ≡ true → rest ≡ drop (length first) key → key ≡ first ++ rest
 begins key first rest e is = sym (take-append-drop (length first) key) ∙ (λ i. (bytes_decides (take (length first) key) first).0 e i ++ sym is i)
