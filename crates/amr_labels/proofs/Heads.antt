@@ -1,13 +1,12 @@
 -- Texts are ordered as their heads are, if these differ.
 use Rattle.std.proofs.Common.{arith, ◌≡◌, ℕ, zero, suc, ◌+◌, ◌*◌, ◌<◌, ◌≤◌, [], ◌∷◌, ◌++◌, ◌&&◌, true, false, cond, length, take, drop, get_or, nat_eq, Bool, refl, sym, ap, ◌∙◌, Ordering, Less, Equal, Greater, true≢false, get_or-drop, take-append-drop}
-use Rattle.std.specs.Cmp.{nat_cmp_is, tied_itself}
+use Rattle.std.specs.Cmp.{tied_itself}
 use Rattle.std.specs.Cmp.Lexicographic.{nat_list_cmp_total}
 use Rattle.std.specs.Ordering.{nat_cmp, ordering_index, ordering_then, ordering_reverse, match_ordering, is_lt}
 use Rattle.std.proofs.lemmas.Cmp.{nat_cmp_total}
 use Rattle.std.proofs.lemmas.Bool.Decides.{nat_tests}
 use Rattle.amr_labels.specs.Labels.{Text, text_cmp}
 use Rattle.amr_labels.specs.Head.{with_head, standing, head_past}
-use Rattle.amr_labels.proofs.Searches.{at_most_two}
 use lib.Pointwise.{pointwise, bytes_decides}
 
 abbrev pub AreBytes : Text → Type 0
@@ -15,9 +14,6 @@ AreBytes text = (k : ℕ) → get_or text k 0 < 256
 
 dropped_are_bytes : (n : ℕ) (text : Text) → AreBytes text → AreBytes (drop n text)
 dropped_are_bytes n text h k = rw (get_or-drop n text k 0) (h (n + k))
-
-below : (a b : ℕ) → a < b → nat_cmp a b ≡ Less
-below a b h = sym (nat_cmp_is a b Less h)
 
 -- the next digit
 next_digit : (n x : ℕ) (text : Text) → with_head (suc n) x text ≡ with_head n (x * 256 + get_or text 0 0) (drop 1 text)
@@ -56,7 +52,7 @@ abbrev Before : Ordering → Ordering → Type 0
 Before r q = ordering_index r < ordering_index q
 
 first_apart : (a b p : ℕ) (r q o : Ordering) → (Before r q → o ≡ Less) → Before (ordering_then (nat_cmp a p) r) (ordering_then (nat_cmp b p) q) → ordering_then (nat_cmp a b) o ≡ Less
-first_apart a b p r q o later h = grind (arith, nat_tests, at_most_two)
+first_apart a b p r q o later h = grind (arith, nat_tests)
 
 -- of two texts that stand apart the first is the lesser
 apart : (ps s t : Text) → Before (standing ps s) (standing ps t) → text_cmp s t ≡ Less

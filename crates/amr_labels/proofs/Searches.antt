@@ -1,50 +1,21 @@
 -- What a binary search by key finds among entries in strictly ascending order.
-use Rattle.std.proofs.Common.{◌≡◌, ◌≢◌, ℕ, zero, suc, ◌<◌, ◌≤◌, true, false, T, IsSorted, List, [], ◌∷◌, Some, None, Result, Ok, Err, MatchResult, length, get_or, refl, ap, ◌∙◌, inl, inr, arith, Ordering, Less, Equal, Greater}
+use Rattle.std.proofs.Common.{◌≡◌, ◌≢◌, ℕ, zero, suc, ◌<◌, true, false, T, IsSorted, List, [], ◌∷◌, Some, None, Result, Ok, Err, MatchResult, length, get_or, refl, ap, ◌∙◌, inl, inr, arith, Ordering, Less, Equal, Greater}
 use Rattle.std.specs.Cmp.{IsTotalOrder}
 use Rattle.std.specs.FinMap.{find, is_sorted}
-use Rattle.std.specs.FinMap.Entries.{below_all}
+use Rattle.std.specs.FinMap.Entries.{find_tied}
 use Rattle.std.specs.List.Sorted.{IsSearchInRange, IsBinarySearchResult}
 use Rattle.std.specs.List.{list_any}
-use Rattle.std.specs.Ordering.{eq_by_cmp, is_eq, ordering_index, ordering_reverse}
+use Rattle.std.specs.Ordering.{eq_by_cmp, is_eq, ordering_reverse}
 use Rattle.std.proofs.lemmas.Bool.Decides.{leb_tells}
-use Rattle.std.proofs.lemmas.Cmp.{alike_right}
+use Rattle.std.proofs.lemmas.List.Elements.{All-get_or, All-from_recursion}
 use Rattle.std.proofs.lemmas.List.Folds.{list_any_at, list_any_none}
 use Rattle.std.proofs.lemmas.List.Sorted.{searchable_from_sorted}
-use Rattle.amr_labels.proofs.Sorted.{first, second, less}
-
--- no answer stands after the third
-pub at_most_two : (o : Ordering) → ordering_index o ≤ 2
-at_most_two o = grind arith
-
-module _ {K : Type 0} {R : K → K → Ordering} (o : IsTotalOrder R) where
-  index_rises : (x y q : K) → R x y ≡ Less → ordering_index (R x q) ≤ ordering_index (R y q)
-  index_rises x y q l =
-      let least = o.trans x y q l in
-      let alike = alike_right o y q x in
-      let most = at_most_two (R x q) in
-      grind arith
+use Rattle.amr_labels.proofs.Ascending.{neighbours_ascend}
+use Rattle.amr_labels.proofs.Pairs.{own_values}
 
 module _ {K X : Type 0} {R : K → K → Ordering} (o : IsTotalOrder R) where
-  -- each of the entries has a greater key
-  above : (k : K) (es : List (K × X)) (i : ℕ) (d : K × X) → T (below_all R k es) → i < length es → R k (get_or es i d).0 ≡ Less
-  above k [] i d h within = absurd (omega arith)
-  above k (e ∷ es) zero d h within = less _ (first _ _ h)
-  above k (e ∷ es) (suc i) d h within = above k es i d (second _ _ h) (omega arith)
-
-  rises : (es : List (K × X)) → T (is_sorted R es) → (i j : ℕ) (d : K × X) → i < j → j < length es → R (get_or es i d).0 (get_or es j d).0 ≡ Less
-  rises [] h i j d lt within = absurd (omega arith)
-  rises (e ∷ es) h zero zero d lt within = absurd (omega arith)
-  rises (e ∷ es) h zero (suc j) d lt within = above e.0 es j d (first _ _ h) (omega arith)
-  rises (e ∷ es) h (suc i) zero d lt within = absurd (omega arith)
-  rises (e ∷ es) h (suc i) (suc j) d lt within = rises es (second _ _ h) i j d (omega arith) (omega arith)
-
   found_at : (q : K) (es : List (K × X)) (i : ℕ) (d : K × X) → T (is_sorted R es) → i < length es → R (get_or es i d).0 q ≡ Equal → find R q es ≡ Some (get_or es i d).1
-  found_at q [] i d h within e = absurd (omega arith)
-  found_at q (f ∷ es) zero d h within e = grind (arith, o.antisymm q f.0)
-  found_at q (f ∷ es) (suc i) d h within e =
-      let later = above f.0 es i d (first _ _ h) (omega arith) in
-      let rest = found_at q es i d (second _ _ h) (omega arith) e in
-      grind (arith, o.congr (get_or es i d).0 q f.0 e, o.antisymm (get_or es i d).0 f.0)
+  found_at q es i d h within e = find_tied R o (get_or es i d).0 q e es ∙ All-get_or (λ (f : K × X). find R f.0 es ≡ Some f.1) es i d within (All-from_recursion (λ (f : K × X). find R f.0 es ≡ Some f.1) es (own_values o es h))
 
   none_found : (q : K) (es : List (K × X)) → ((i : ℕ) (d : K × X) → i < length es → R (get_or es i d).0 q ≢ Equal) → find R q es ≡ None
   none_found q [] h = refl
@@ -57,10 +28,7 @@ module _ {K X : Type 0} {R : K → K → Ordering} (o : IsTotalOrder R) where
       → MatchResult r (λ i. (d : K × X) → find R q es ≡ Some (get_or es i d).1) (λ i. find R q es ≡ None)
   searched q es (Ok i) h within result = λ d. found_at q es i d h within (result d)
   searched q es (Err i) h within result =
-      let parts = result (λ j k d le lt. elim (leb_tells k j) [
-        | inl p ↦ let same : j ≡ k = omega arith in rw same (omega arith)
-        | inr p ↦ index_rises o _ _ q (rises es h j k d p.1 lt)
-      ]) in
+      let parts = result (searchable_from_sorted o (λ (e : K × X). e.0) es q (λ k d low high. grind (arith, o.antisymm, neighbours_ascend R es k d h))) in
       none_found q es (λ k d lt e. elim (leb_tells i k) [
         | inl p ↦ cc (parts.1 k d p.1 lt)
         | inr p ↦ cc (parts.0 k d (omega arith) p.1)
