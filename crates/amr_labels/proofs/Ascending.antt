@@ -34,10 +34,8 @@ module _ {K X : Type 0} {R : K → K → Ordering} (o : IsTotalOrder R) where
   neighbours_decide [] h = tt
   neighbours_decide (e ∷ es) h =
       sorted_entries R (e ∷ es) (sorted_from_all_adjacent o (map (λ e. e.0) (e ∷ es)) e.0 (λ k within.
-      let inside : k + 1 < length (e ∷ es) = rw (sym (length-map (e ∷ es) (λ (e : K × X). e.0))) within in
-      ap (λ x. R x (get_or (map (λ (e : K × X). e.0) (e ∷ es)) (k + 1) e.0)) (get_or-map (λ (e : K × X). e.0) (e ∷ es) k e e.0 (omega (arith, inside)))
-      ∙ ap (R (get_or (e ∷ es) k e).0) (get_or-map (λ (e : K × X). e.0) (e ∷ es) (k + 1) e e.0 inside)
-      ∙ h k e inside))
+      let inside : k + 1 < length (e ∷ es) = simp length-map at within in
+      cc (get_or-map (λ (e : K × X). e.0) (e ∷ es) k e e.0 (omega (arith, inside)), get_or-map (λ (e : K × X). e.0) (e ∷ es) (k + 1) e e.0 inside, h k e inside)))
 
   no_neighbours : (es : List (K × X)) (k : ℕ) → k + 1 < length es → ((d : K × X) → false ≡ is_lt (R (get_or es k d).0 (get_or es (k + 1) d).0)) → is_sorted R es ≡ true → false ≡ true
   no_neighbours [] k within above sorted = absurd (omega (arith, within))

@@ -2,7 +2,7 @@
 use Rattle.std.proofs.Common.{arith, ◌≡◌, ℕ, zero, suc, ◌-◌, Bool, cond, List, [], ◌∷◌, map, Option, Some, None, IsSome, is_some, refl, sym, ap, ◌⊎◌, subst}
 use Rattle.std.specs.Cmp.{both_ways}
 use Rattle.regex_hir.specs.Re.{Re, cat, alt, group, plus, Rest, accept, attempt}
-use Rattle.regex_hir.specs.Meaning.{meaning, cat_all, alt_all, optional, copies, up_to, at_least, repeat}
+use Rattle.regex_hir.specs.Meaning.{meaning, cat_all, alt_all, copies, up_to, at_least, repeat}
 use Rattle.regex_hir.specs.Matches.{Rounds, Matches}
 use Rattle.regex_hir.specs.Text.{is_boundary}
 use Rattle.regex_hir.specs.Find.{first_from, find_str}
@@ -48,19 +48,16 @@ found_alike re hay = first_alike _ _ (λ i. some_if (is_boundary hay i) _ _ (fou
 
 -- ---- what the parts of a tree mean without their groups
 
-ungrouped_optional : (greedy : Bool) (a : Re) → without_groups (optional greedy a) ≡ optional greedy (without_groups a)
-ungrouped_optional greedy a = grind arith
-
 ungrouped_copies : (n : ℕ) (a b : Re) → without_groups (copies n a b) ≡ copies n (without_groups a) (without_groups b)
 ungrouped_copies zero a b = refl
 ungrouped_copies (suc n) a b = ap (cat (without_groups a)) (ungrouped_copies n a b)
 
 ungrouped_up_to : (greedy : Bool) (n : ℕ) (a : Re) → without_groups (up_to greedy n a) ≡ up_to greedy n (without_groups a)
 ungrouped_up_to greedy zero a = refl
-ungrouped_up_to greedy (suc n) a = cc (ungrouped_optional greedy (cat a (up_to greedy n a)), ungrouped_up_to greedy n a)
+ungrouped_up_to greedy (suc n) a = grind (arith, ungrouped_up_to greedy n a)
 
 ungrouped_at_least : (greedy : Bool) (n : ℕ) (a : Re) → without_groups (at_least greedy n a) ≡ at_least greedy n (without_groups a)
-ungrouped_at_least greedy zero a = ungrouped_optional greedy (plus greedy a)
+ungrouped_at_least greedy zero a = grind arith
 ungrouped_at_least greedy (suc n) a = ungrouped_copies n a (plus greedy a)
 
 pub ungrouped_repeat : (least : ℕ) (most : Option ℕ) (greedy : Bool) (a : Re) → without_groups (repeat least most greedy a) ≡ repeat least most greedy (without_groups a)
