@@ -140,6 +140,7 @@ impl KeyedTexts {
     }
 
     /// Compares the texts as label sets are compared.
+    #[tactic(auto, using(crate::proofs::SortKeys::by_sort_key))]
     pub(crate) fn cmp(&self, other: &KeyedTexts) -> Ordering
         ensures { result ≡ label_set_cmp self.now other.now }
     {
@@ -152,6 +153,7 @@ impl KeyedTexts {
     }
 
     /// Returns whether the texts are equal. Equal sort keys have the same bytes.
+    #[tactic(auto, using(crate::proofs::SortKeys::by_sort_key, crate::proofs::Firsts::same_texts))]
     pub(crate) fn is_equal(&self, other: &KeyedTexts) -> bool
         ensures { result ≡ eq_by_cmp label_set_cmp self.now other.now }
     {

@@ -117,6 +117,7 @@ impl Comparison {
 
 /// Rules out the label sets whose value of the label with this name isn't the matcher's own value, or
 /// is if `negated`.
+#[tactic(auto, using(crate::proofs::MatcherLemmas::Asking::marked_more))]
 fn keep_equal(own: &Text, negated: bool, name: &str, label_sets: &[Labels], candidates: &mut [bool])
     requires { length candidates.old ≡ length label_sets.now }
     ensures { candidates.new

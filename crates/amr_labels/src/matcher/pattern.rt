@@ -94,6 +94,7 @@ impl Pattern {
     }
 
     /// Rules out the same label sets. It searches in the values of the candidates alone.
+    #[tactic(auto, using(crate::proofs::MatcherLemmas::Asking::marked_more))]
     fn ask_each(
         &self,
         search: &mut Search<'_>,
