@@ -1,11 +1,8 @@
-use Rattle.std.proofs.Common.{sym, ap, ◌∙◌}
-use Rattle.std.specs.FinMap.{find}
 use Rattle.amr_labels.specs.Map as map
-use Rattle.amr_labels.specs.Labels.{text_cmp}
 use Rattle.amr_labels.proofs.text_map.TextMap.get.Goals as goal
 
 pub text_under-requires : goal.text_under-requires
 text_under-requires c = rw c.entries.ensures (map.entries-sorted c.args.self.now)
 
 pub returns : goal.returns
-returns c = c.text_under.ensures ∙ ap (find text_cmp c.args.name.now) c.entries.ensures ∙ sym (map.get-entries c.args.self.now c.args.name.now)
+returns c = cc (map.get-entries c.args.self.now c.args.name.now)
