@@ -1,5 +1,5 @@
 -- What is read of an alert, one member after the other.
-use Rattle.std.proofs.Common.{◌≡◌, List, [], reverse, codes, Option, Some, None, false, bytes_eq, sym, ◌∙◌, arith}
+use Rattle.std.proofs.Common.{◌≡◌, ℕ, ◌≤◌, List, [], reverse, codes, Option, Some, None, false, bytes_eq, sym, ◌∙◌, arith}
 use Rattle.std.proofs.lemmas.Bool.{false≢true}
 use Rattle.std.proofs.lemmas.Slice.Eq.{bytes_eq-Decides}
 use Rattle.serde_json.specs.Data.{Data, object, Members, no_members, put}
@@ -11,7 +11,9 @@ use Rattle.amr_time.specs.Time.{Moment}
 use Rattle.amr_config.specs.Read.Members.{unless_null}
 use Rattle.amr_events.specs.Shapes.{texts_in}
 use Rattle.amr_events.specs.Posted.{time_at, time_in, annotations_at, annotations_in, alert_of}
-use Rattle.amr_events.specs.Tokens.{IsDraft}
+use Rattle.json.specs.Token.{Token}
+use Rattle.amr_events.specs.Tokens.{States, IsDraft, Adds}
+use Rattle.amr_events.proofs.Stating.{states_such}
 use Rattle.amr_events.specs.declared.posted_tokens.Draft.{Draft}
 
 -- an object of texts is present
@@ -19,25 +21,29 @@ texts_present : (d : Data) (texts : List (Text × Text)) → texts_in d ≡ Some
 unfolding texts_in
 texts_present d texts is = grind arith
 
-module _ (found : Members) (draft : Draft) (is : IsDraft found draft) (d : Data) where
-  kept : (key other : Text) → bytes_eq other key ≡ false → get_member other (put key d found) ≡ get_member other found
-  kept key other apart = get_member-put_other other key d found (λ same. false≢true (sym apart ∙ (bytes_eq-Decides other key).1 same))
+kept : (found : Members) (d : Data) (key other : Text) → bytes_eq other key ≡ false → get_member other (put key d found) ≡ get_member other found
+kept found d key other apart = get_member-put_other other key d found (λ same. false≢true (sym apart ∙ (bytes_eq-Decides other key).1 same))
 
-  pub with_labels : (labels : List (Text × Text)) → texts_in d ≡ Some labels → IsDraft (put (codes "labels") d found) (record draft { labels = Some labels })
+module _ (draft : Draft) (tokens rest : List Token) where
+  pub adds_labels : (labels : List (Text × Text)) → ((depth : ℕ) → 1 ≤ depth → States (λ d. texts_in d ≡ Some labels) depth tokens rest) → Adds (codes "labels") draft (record draft { labels = Some labels }) tokens rest
   unfolding annotations_in time_in
-  with_labels labels stated = grind (arith, get_member-put (codes "labels") d found, kept (codes "labels"), is)
+  adds_labels labels read depth some found is =
+      states_such depth (λ d. texts_in d ≡ Some labels) _ tokens rest (λ d stated. grind (arith, get_member-put (codes "labels") d found, kept found d (codes "labels"), is)) (read depth some)
 
-  pub with_annotations : (texts : List (Text × Text)) → texts_in d ≡ Some texts → IsDraft (put (codes "annotations") d found) (record draft { annotations = from_entries (reverse texts) })
+  pub adds_annotations : (texts : List (Text × Text)) → ((depth : ℕ) → 1 ≤ depth → States (λ d. texts_in d ≡ Some texts) depth tokens rest) → Adds (codes "annotations") draft (record draft { annotations = from_entries (reverse texts) }) tokens rest
   unfolding annotations_in time_in
-  with_annotations texts stated = grind (arith, get_member-put (codes "annotations") d found, kept (codes "annotations"), texts_present d texts stated, is)
+  adds_annotations texts read depth some found is =
+      states_such depth (λ d. texts_in d ≡ Some texts) _ tokens rest (λ d stated. grind (arith, get_member-put (codes "annotations") d found, kept found d (codes "annotations"), texts_present d texts stated, is)) (read depth some)
 
-  pub with_start : (time : Option Moment) → time_at (unless_null (Some d)) ≡ Some time → IsDraft (put (codes "startsAt") d found) (record draft { starts_at = time })
+  pub adds_start : (time : Option Moment) → ((depth : ℕ) → States (λ d. time_at (unless_null (Some d)) ≡ Some time) depth tokens rest) → Adds (codes "startsAt") draft (record draft { starts_at = time }) tokens rest
   unfolding annotations_in time_in
-  with_start time stated = grind (arith, get_member-put (codes "startsAt") d found, kept (codes "startsAt"), is)
+  adds_start time read depth some found is =
+      states_such depth (λ d. time_at (unless_null (Some d)) ≡ Some time) _ tokens rest (λ d stated. grind (arith, get_member-put (codes "startsAt") d found, kept found d (codes "startsAt"), is)) (read depth)
 
-  pub with_end : (time : Option Moment) → time_at (unless_null (Some d)) ≡ Some time → IsDraft (put (codes "endsAt") d found) (record draft { ends_at = time })
+  pub adds_end : (time : Option Moment) → ((depth : ℕ) → States (λ d. time_at (unless_null (Some d)) ≡ Some time) depth tokens rest) → Adds (codes "endsAt") draft (record draft { ends_at = time }) tokens rest
   unfolding annotations_in time_in
-  with_end time stated = grind (arith, get_member-put (codes "endsAt") d found, kept (codes "endsAt"), is)
+  adds_end time read depth some found is =
+      states_such depth (λ d. time_at (unless_null (Some d)) ≡ Some time) _ tokens rest (λ d stated. grind (arith, get_member-put (codes "endsAt") d found, kept found d (codes "endsAt"), is)) (read depth)
 
 -- nothing is read of an object without members
 pub empty_draft : (draft : Draft) → draft.labels ≡ None → draft.annotations ≡ from_entries [] → draft.starts_at ≡ None → draft.ends_at ≡ None → IsDraft no_members draft

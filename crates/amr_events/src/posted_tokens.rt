@@ -97,6 +97,7 @@ impl Draft {
     }
 
     /// Returns the alert, if its labels were read.
+    #[tactic(auto, using(crate::proofs::Drafting::finished))]
     fn finish(self) -> Option<PostedAlert>
         ensures { IfSome result (λ alert. (found : Members) → IsDraft found self
             → alert_of (object found) ≡ Some alert) }
