@@ -4,17 +4,15 @@ use Rattle.std.specs.Prelude.{All, IfSome, codes}
 use Rattle.std.proofs.lemmas.Bool.Decides.{nat_tests}
 use Rattle.std.proofs.lemmas.List.Elements.{All-nil, All-cons}
 use Rattle.serde_json.specs.Data.{Data, Items, no_items, item}
-use Rattle.serde_json.specs.Find.{as_array}
 use Rattle.amr_time.specs.MomentRead.{moment_at, in_range}
 use Rattle.amr_events.specs.Actions.Events.{Act}
 use Rattle.amr_events.specs.Actions.Events as events
-use Rattle.amr_events.specs.Shapes.{◌>>=◌, each_item, moment_under}
+use Rattle.amr_events.specs.Shapes.{each_item, moment_under}
 use Rattle.amr_events.specs.Posted.{time_of, time_in, alert_of, alerts_of}
 use Rattle.amr_events.specs.PostedSilences.{silence_of}
 use Rattle.amr_events.specs.Lines.{post_of, silencing_of, expiry_of, tick_of, labelling_of, act_of_stated, act_in}
 use Rattle.amr_events.specs.Refused.{ActIs}
 use Rattle.amr_events.specs.EventLaws.{IsStatable, AlertIsStatable, ActIsStatable, ReadEventsAreStatable}
-use Rattle.amr_events.specs.declared.posts.posted_alert.PostedAlert.{PostedAlert}
 use Rattle.amr_events.specs.declared.version.Version.{Version}
 
 in_range-bound : (z : ℤ) → IfSome (in_range z) IsStatable
@@ -25,13 +23,13 @@ moment_at-bound : (text : List ℕ) → IfSome (moment_at text) IsStatable
 unfolding moment_at
 moment_at-bound text = grind (arith, in_range-bound)
 
-time_of-bound : (text : List ℕ) → IfSome (time_of text) (λ time. IfSome time IsStatable)
-unfolding time_of
-time_of-bound text = grind (arith, moment_at-bound text)
-
 moment_under-bound : (key : List ℕ) (d : Data) → IfSome (moment_under key d) IsStatable
 unfolding moment_under
 moment_under-bound key d = grind (arith, moment_at-bound)
+
+time_of-bound : (text : List ℕ) → IfSome (time_of text) (λ time. IfSome time IsStatable)
+unfolding time_of
+time_of-bound text = grind (arith, moment_at-bound text)
 
 time_in-bound : (key : List ℕ) (d : Data) → IfSome (time_in key d) (λ time. IfSome time IsStatable)
 unfolding time_in
@@ -45,21 +43,17 @@ each_alert-bound : (items : Items) → IfSome (each_item alert_of items) (All Al
 each_alert-bound no_items = All-nil AlertIsStatable
 each_alert-bound (item d items) = grind (arith, alert_of-bound d, each_alert-bound items, All-cons AlertIsStatable)
 
-posted : (alerts : Option (List PostedAlert)) → IfSome alerts (All AlertIsStatable) → IfSome (alerts >>= λ alerts. Some (events.Act.Post alerts)) ActIsStatable
-posted None all = tt
-posted (Some alerts) all = all
-
-alerts_in-bound : (items : Option Items) → IfSome (items >>= each_item alert_of) (All AlertIsStatable)
-alerts_in-bound None = tt
-alerts_in-bound (Some items) = each_alert-bound items
+alerts_of-bound : (d : Data) → IfSome (alerts_of d) (All AlertIsStatable)
+unfolding alerts_of
+alerts_of-bound d = grind (arith, each_alert-bound)
 
 silence_of-bound : (line d : Data) → IfSome (silence_of line d) (λ silence. IsStatable silence.starts_at × IsStatable silence.ends_at)
 unfolding silence_of
 silence_of-bound line d = grind (arith, moment_under-bound (codes "startsAt") d, moment_under-bound (codes "endsAt") d)
 
 stated-bound : (line : Data) (alerts silence id config tick label : Option Data) → IfSome (act_of_stated line alerts silence id config tick label) ActIsStatable
-unfolding post_of silencing_of expiry_of tick_of labelling_of alerts_of
-stated-bound line (Some d) silence id config tick label = posted (alerts_of d) (alerts_in-bound (as_array d))
+unfolding post_of silencing_of expiry_of tick_of labelling_of
+stated-bound line (Some d) silence id config tick label = grind (arith, alerts_of-bound d)
 stated-bound line None (Some d) id config tick label = grind (arith, silence_of-bound line d)
 stated-bound line None None id config tick label = grind arith
 

@@ -1,4 +1,5 @@
 pub mod Nesting
+pub mod Counts
 pub mod Steps
 pub mod Stating
 pub mod Drafting

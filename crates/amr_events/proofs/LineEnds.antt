@@ -1,8 +1,7 @@
 -- The lines of bytes, and of more bytes after them.
-use Rattle.std.proofs.Common.{◌≡◌, ℕ, ◌+◌, ◌-◌, ◌<◌, ◌==◌, List, [], ◌∷◌, ◌++◌, length, take, drop, refl, ap, ◌∙◌, arith, append-nil}
+use Rattle.std.proofs.Common.{◌≡◌, ℕ, ◌+◌, ◌<◌, ◌==◌, List, [], ◌∷◌, ◌++◌, length, take, drop, refl, ap, ◌∙◌, arith, append-nil}
 use Rattle.std.proofs.lemmas.Bool.{false_from_ne_true}
 use Rattle.std.proofs.lemmas.Grind.{common_steps, get_or_default_zero}
-use Rattle.std.proofs.lemmas.List.{take_all, length-drop}
 use Rattle.std.proofs.lemmas.List.Splits.{slice_split_none, length-slice_split}
 use Rattle.std.proofs.lemmas.Bool.Decides.{nat_tests}
 use Rattle.memchr.specs.Find.{Passes, is_byte, Nowhere, NoneBefore}
@@ -33,12 +32,8 @@ joined_last (line ∷ []) last first others = refl
 joined_last (line ∷ next ∷ before) last first others = ap (λ lines. line ∷ lines) (joined_last (next ∷ before) last first others)
 
 joined_lines : (bytes more : List ℕ) → lines_of (bytes ++ more) ≡ joined (lines_of bytes) (lines_of more)
-joined_lines [] more = let some = lines_in more in grind arith
-joined_lines (b ∷ bytes) more =
-    let rest = joined_lines bytes more in
-    let some = lines_in more in
-    let others = lines_in bytes in
-    grind (arith, rest)
+joined_lines [] more = grind (arith, lines_in more)
+joined_lines (b ∷ bytes) more = grind (arith, joined_lines bytes more, lines_in more, lines_in bytes)
 
 pub join : (more : List ℕ) (first : Line) (others : List Line) → lines_of more ≡ first ∷ others
     → (bytes : List ℕ) (before : List Line) (last : Line) → lines_of bytes ≡ before ++ last ∷ [] → lines_of (bytes ++ more) ≡ before ++ (last ++ first) ∷ others
@@ -62,8 +57,3 @@ at_feed left k first is =
       slice_split_none (λ b. b == 10) (take k left) (λ n d low. false_from_ne_true _ (λ feed. first.before n (omega arith) (grind (arith, common_steps)) (grind (arith, common_steps)))),
       grind (arith, common_steps, nat_tests),
     )
-
--- ---- the bytes after a line feed
-
-pub rest_whole : (n : ℕ) (xs : List ℕ) → take (length xs - n) (drop n xs) ≡ drop n xs
-rest_whole n xs = take_all (length xs - n) (drop n xs) (omega (arith, length-drop n xs))

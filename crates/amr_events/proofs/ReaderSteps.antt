@@ -1,5 +1,5 @@
 -- The steps of a reader of scripts.
-use Rattle.std.proofs.Common.{◌≡◌, ℕ, ◌+◌, ◌<◌, ◌≤◌, List, [], ◌∷◌, ◌++◌, length, Result, Ok, Err, OnOk, refl, sym, arith, append_assoc, length-append}
+use Rattle.std.proofs.Common.{◌≡◌, ℕ, ◌+◌, ◌<◌, ◌≤◌, List, [], ◌∷◌, ◌++◌, length, Result, Ok, Err, OnOk, refl, arith, append_assoc, length-append}
 use Rattle.std.proofs.lemmas.List.{length_push}
 use Rattle.amr_events.specs.Answers.{IsStop, Stops, IsRefused}
 use Rattle.amr_events.specs.Scripts.{lines_of, longest_line, Script, ReadAs, HasFault, ScriptIs}
@@ -25,10 +25,6 @@ stops_map (Err e) f stops = stop_map e f stops
 pub both_ok : {X E P Q S : Type 0} (r : Result X E) → (P → Q → S) → OnOk r P → OnOk r Q → OnOk r S
 both_ok (Ok x) f p q = f p q
 both_ok (Err e) f p q = tt
-
-pub none_of : (l : List ℕ) → length l ≡ 0 → l ≡ []
-none_of [] none = refl
-none_of (x ∷ l) none = absurd (omega (arith, none))
 
 -- ---- one step after another
 
@@ -75,12 +71,9 @@ module _ (part : List ℕ) (old : ScriptReader) (one : IsOneLine part) where
 
 -- ---- the end
 
-pub last_read : (bytes : List ℕ) (reader : ScriptReader) → HasRead bytes reader → (line : Line) → line ≡ reader.unfinished.items → (new : Draft) (script : Script)
-    → script.version ≡ new.version → script.events ≡ new.events.items → Adds line (so_far reader.draft) (so_far new) → ScriptIs bytes (Ok script)
-last_read bytes reader has line whole new script version events adds =
-    let same : so_far new ≡ script = λ i. record { version = sym version i; events = sym events i } in
-    let read = reads_one_more has.ended line (so_far reader.draft) (so_far new) has.read adds in
-    rw (has.lines, ← whole, ← same) read
+pub last_read : (bytes : List ℕ) (reader : ScriptReader) (new : Draft) (script : Script) → HasRead bytes reader → script ≡ so_far new → Adds reader.unfinished.items (so_far reader.draft) (so_far new) → ScriptIs bytes (Ok script)
+last_read bytes reader new script has same adds =
+    rw (has.lines, same) (reads_one_more has.ended reader.unfinished.items (so_far reader.draft) (so_far new) has.read adds)
 
 pub stop_refuses : {Y : Type 0} {P : Fault → Type 0} (Is : Result Y Fault → Type 0) (e : ScriptError) → ((fault : Fault) → P fault → Is (Err fault)) → IsStop P e → IsRefused Is e
 stop_refuses Is Memory f stop = tt

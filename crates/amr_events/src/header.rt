@@ -34,6 +34,7 @@ fn states_version_two(value: &Value) -> bool
 }
 
 /// Returns whether the value is an object with one member.
+#[tactic(auto, using(crate::proofs::Counts::counted, std::proofs::lemmas::Bool::Decides::nat_tests))]
 fn has_one_member(value: &Value) -> bool
     ensures { result ≡ has_one (view value.now) }
 {

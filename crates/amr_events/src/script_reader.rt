@@ -28,6 +28,7 @@ pub struct ScriptReader {
 
 impl ScriptReader {
     /// Returns a reader of a script of which no byte was read.
+    #[tactic(auto, using(crate::proofs::ReaderSteps::none_read, crate::proofs::LineSteps::nothing_read))]
     pub fn new(alloc: Global) -> ScriptReader
         ensures { HasRead [] result }
     {
@@ -77,6 +78,7 @@ impl ScriptReader {
     }
 
     /// Keeps more bytes of the unfinished line.
+    #[tactic(auto, using(crate::proofs::ReaderSteps::kept, crate::proofs::ReaderSteps::too_long))]
     fn keep(&mut self, part: &[u8]) -> Result<(), ScriptError>
         requires { IsOneLine part.now }
         ensures read { OnOk result (Follows part.now self.old self.new) }

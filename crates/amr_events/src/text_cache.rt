@@ -72,6 +72,7 @@ impl TextCache {
 
     /// Returns the map of names and texts. It is shared with an equal map that was returned before
     /// for texts in the order of their names.
+    #[tactic(auto, using(crate::proofs::Counts::from_own))]
     pub(crate) fn annotations_of(
         &mut self,
         alloc: Global,

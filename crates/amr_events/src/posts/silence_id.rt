@@ -52,6 +52,7 @@ impl SilenceId {
     /// Reads a UUID (RFC 9562) in one of four forms: 32 hexadecimal digits, these hyphenated as
     /// 8-4-4-4-12, and the hyphenated form in braces or after `urn:uuid:`. Digits and the prefix
     /// may be in either case. Returns `None` for any other text.
+    #[tactic(auto, unfolding(crate::specs::Posts::Ids::id_of))]
     pub fn read(text: &str) -> Option<SilenceId>
         ensures { result ≡ id_of text.now }
     {

@@ -1,7 +1,8 @@
 use Rattle.std.proofs.Common.{[], ◌∷◌, ◌++◌, refl, ap, sym, ◌∙◌, arith, append-nil}
 use Rattle.std.proofs.lemmas.Bool.Decides.{nat_tests}
 use Rattle.std.proofs.lemmas.Result.{err_from_is_err_and}
-use Rattle.amr_events.proofs.ReaderSteps.{none_of, stop_map, stops_map, both_ok, follows_more, refused_later, refused_sooner, line_ended, line_fails}
+use Rattle.amr_events.proofs.Counts.{none_of}
+use Rattle.amr_events.proofs.ReaderSteps.{stop_map, stops_map, both_ok, follows_more, refused_later, refused_sooner, line_ended, line_fails}
 use Rattle.amr_events.proofs.script_reader.ScriptReader.end_line.Goals as goal
 
 pub returns-then-is_empty-clause-read : goal.returns-then-is_empty-clause-read

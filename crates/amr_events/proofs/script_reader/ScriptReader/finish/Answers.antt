@@ -3,4 +3,4 @@ use Rattle.amr_events.proofs.script_reader.ScriptReader.finish.Goals as goal
 
 pub returns : goal.returns
 returns c bytes has =
-    last_read bytes c.args.self has c.as_slice.result.now c.as_slice.ensures.value c.add_line.new.self c.new.result c.new.ensures.version c.new.ensures.events c.in_ok-add_line.ensures.added
+    last_read bytes c.args.self c.add_line.new.self c.new.result has (λ i. record { version = c.new.ensures.version i; events = c.new.ensures.events i }) (rw c.as_slice.ensures.value at c.in_ok-add_line.ensures.added)

@@ -1,4 +1,4 @@
-use Rattle.std.proofs.Common.{◌≡◌, List, ℕ, Option, Some, None, refl, ap, ◌∙◌, option_map}
+use Rattle.std.proofs.Common.{◌≡◌, List, ℕ, Option, Some, None, refl, ap, option_map}
 use Rattle.std.specs.Int.{w128, from_be_bytes}
 use Rattle.std.proofs.lemmas.Bool.{false≢true}
 use Rattle.uuid.specs.Text.{parsed}
@@ -12,7 +12,3 @@ none_of (Some u) h = absurd (h u refl)
 pub returns-in-Err : goal.returns-in-Err
 unfolding id_of
 returns-in-Err c = ap (option_map (from_be_bytes w128)) (none_of (parsed c.args.text.now) (λ u e. false≢true (c.in-Err.ensures.ok.1 (u, e))))
-
-pub returns-in-Ok : goal.returns-in-Ok
-unfolding id_of
-returns-in-Ok c = ap Some (c.from_bits.ensures ∙ c.as_u128.ensures) ∙ ap (option_map (from_be_bytes w128)) c.in-Ok.ensures.bytes
