@@ -25,6 +25,7 @@ pub(crate) struct Whole<'v> {
 
 impl<'v> Whole<'v> {
     /// Collects the names of the intervals that a whole configuration defines.
+    #[tactic(auto, unfolding(crate::specs::Read::ReadIntervals::is_defined))]
     pub(crate) fn new(alloc: Global, value: &'v Value) -> Result<Whole<'v>, AllocError>
         ensures { IfOk result (λ whole. whole.value.now ≡ value.now) }
     {
