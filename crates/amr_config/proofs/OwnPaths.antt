@@ -113,10 +113,7 @@ module _ (config : Config) where
   two_firsts a b first_a first_b same = grind (arith, first_a b, first_b a)
 
   same_above : (a b : Option ℕ) → IfSome a (IsFirst config) → IfSome b (IsFirst config) → option_map_or (path_of config) a [] ≡ option_map_or (path_of config) b [] → a ≡ b
-  same_above None None sound_a sound_b same = refl
-  same_above None (Some b) sound_a sound_b same = absurd (path_not_empty config b (sym same))
-  same_above (Some a) None sound_a sound_b same = absurd (path_not_empty config a same)
-  same_above (Some a) (Some b) sound_a sound_b same = ap (λ n. Some n) (two_firsts a b sound_a sound_b same)
+  same_above a b sound_a sound_b same = grind (arith, path_not_empty config, two_firsts)
 
   -- keys of the same path are the same
   same_key : (p q : PathKey) → IsSound p → IsSound q → path_of_key p ≡ path_of_key q → p ≡ q

@@ -8,7 +8,7 @@ use Rattle.std.proofs.lemmas.List.Elements.{Contains-append_cases, Contains-appe
 use Rattle.std.proofs.lemmas.Cmp.{tied_itself}
 use Rattle.std.proofs.lemmas.Bool.{and_from, and_parts}
 use Rattle.std.specs.Cmp.Lexicographic.{nat_list_cmp_total, same_text}
-use Rattle.serde_json.specs.Data.{Data, null, array, object, Items, no_items, item, Members, no_members, member}
+use Rattle.serde_json.specs.Data.{Data, array, object, Items, no_items, item, Members, no_members, member}
 use Rattle.amr_labels.specs.Labels.{Text, text_cmp, text_cmp-IsAntisymmetric}
 use Rattle.amr_config.specs.declared.stated.receiver.Integration.{Integration}
 use Rattle.amr_config.specs.declared.stated.receiver.Receiver.{Receiver}
@@ -56,10 +56,8 @@ placed_kind kind i (y ∷ ys) x placed c =
 -- ---- in order
 
 goes_with : (a : Integration) (xs : List Integration) (kind : Text) (entries : List Integration) → goes_before a xs ≡ true → text_cmp a.kind kind ≡ Less → Placed kind 0 entries → goes_before a (with_entries xs kind entries) ≡ true
-goes_with a [] kind [] goes less placed = refl
-goes_with a (x ∷ xs) kind [] goes less placed = grind arith
-goes_with a [] kind (e ∷ es) goes less placed = grind arith
-goes_with a (x ∷ xs) kind (e ∷ es) goes less placed = grind arith
+goes_with a xs kind [] goes less placed = grind arith
+goes_with a xs kind (e ∷ es) goes less placed = grind arith
 
 order_append : (kind : Text) (i : ℕ) (entries xs : List Integration) → Placed kind i entries → ((e : Integration) → e.kind ≡ kind → goes_before e xs ≡ true) → are_in_order xs ≡ true → are_in_order (entries ++ xs) ≡ true
 order_append kind i [] xs placed goes order = order
@@ -142,8 +140,7 @@ past_side ms x is = record { key = is.key; names_kind = is.names_kind; past = el
 -- ---- receivers
 
 object_ordered : (d : Data) (ms : Members) → HasOrderedKeys d → as_object d ≡ Some ms → AreInOrder ms
-object_ordered (object ks) ms order e = rw (← same_Some ks ms e) order.0
-object_ordered d ms order e = absurd (cc)
+object_ordered d ms order e = grind arith
 
 -- the integrations are in order if the keys of the value are
 abbrev IsOrdered : Data → Receiver → Type 0
@@ -173,8 +170,7 @@ found_ordered key (member k v ms) d order e =
     (λ is later. found_ordered key ms d order.1 later) (λ is same. rw (← same_Some v d same) order.0) (λ is later. found_ordered key ms d order.1 later) e
 
 present_is : (o : Option Data) (d : Data) → unless_null o ≡ Some d → o ≡ Some d
-present_is (Some null) d e = absurd (none-some d e)
-present_is o d e = e
+present_is o d e = grind arith
 
 member_ordered : (key : Text) (d v : Data) → HasOrderedKeys d → member_of key d ≡ Some v → HasOrderedKeys v
 unfolding member_of

@@ -4,7 +4,7 @@ use Rattle.std.specs.Option.{option_or, option_map_or}
 use Rattle.std.proofs.lemmas.Bool.{cond_both}
 use Rattle.std.proofs.lemmas.List.Elements.{Contains-append_left, Contains-append_right, Contains-append_cases}
 use Rattle.std.proofs.lemmas.Option.{none-some, same_Some}
-use Rattle.serde_json.specs.Data.{Data, null, Items, no_items, item, Members, no_members, member}
+use Rattle.serde_json.specs.Data.{Data, Items, no_items, item, Members, no_members, member}
 use Rattle.serde_json.specs.Find.{as_str, as_array, as_object, get_item}
 use Rattle.amr_labels.specs.Labels.{Text, text_cmp, text_cmp-IsAntisymmetric}
 use Rattle.amr_config.specs.declared.stated.receiver.Integration.{Integration}
@@ -22,10 +22,7 @@ use Rattle.amr_config.proofs.ReadLemmas.Judged.{Judged, by_findings, judged_ok, 
 
 -- an entry says what it sends, or its kind has a default
 said_or_default : (path : List ℕ) (o : Option Data) (said default : Option Bool) → StatesIf IsFlag o said → unless_some path (option_or said default) ≡ unless path (is_some o || is_some default)
-said_or_default path None None None states = refl
-said_or_default path None None (Some b) states = refl
-said_or_default path (Some v) (Some b) default states = refl
-said_or_default path o said default states = absurd states
+said_or_default path o said default states = grind arith
 
 judged_entry : (kind : Text) (path : List ℕ) (i : ℕ) (d : Data) (integrations : List Integration) → Judged (entry_into kind path i d integrations) (entry_found kind (item_path path i) d) (Adds (IsIntegration kind) i d integrations)
 unfolding entry_into
@@ -159,8 +156,6 @@ kinds_all side (member k e ms) before after key d kind (inl (same_key, same_list
 
 entry_of : (kind : Text) (i : ℕ) (ds : Items) (xs : List Integration) (x : Integration) → StatesEach (IsIntegration kind) i ds xs → Contains xs x → (n : ℕ) × (e : Data) × (get_item n ds ≡ Some e) × IsIntegration kind (i + n) e x
 entry_of kind i no_items [] x are (n, lt, is) = absurd (omega (arith, lt))
-entry_of kind i no_items (y ∷ ys) x are c = absurd are
-entry_of kind i (item d ds) [] x are c = absurd are
 entry_of kind i (item d ds) (y ∷ ys) x are (zero, lt, is) =
     let same : i + 0 ≡ i = omega arith in
     (0, d, refl, rw same (rw (← is) are.0))
@@ -168,6 +163,7 @@ entry_of kind i (item d ds) (y ∷ ys) x are (suc n, lt, is) =
     let (m, e, at, entry) = entry_of kind (i + 1) ds ys x are.1 (n, omega (arith, lt), is) in
     let same : i + suc m ≡ i + 1 + m = omega arith in
     (suc m, e, at, rw same entry)
+entry_of kind i ds xs x are c = absurd are
 
 of_entry : (kind : Text) (i : ℕ) (ds : Items) (xs : List Integration) (n : ℕ) (e : Data) → StatesEach (IsIntegration kind) i ds xs → get_item n ds ≡ Some e → (x : Integration) × Contains xs x × IsIntegration kind (i + n) e x
 of_entry kind i no_items xs n e are at = absurd (none-some e at)
@@ -183,12 +179,10 @@ of_entry kind i (item d ds) (y ∷ ys) (suc n) e are at =
 -- ---- a receiver
 
 pub entries_there : (kind : Text) (v : Data) (xs : List Integration) → StatesIf (AreIntegrations kind) (unless_null (Some v)) (Some xs) → AreIntegrations kind v xs
-entries_there kind null xs h = absurd h
-entries_there kind v xs h = h
+entries_there kind v xs h = grind arith
 
 entries_not_missing : (kind : Text) (v : Data) (ds : Items) → as_array v ≡ Some ds → StatesIf (AreIntegrations kind) (unless_null (Some v)) None → ⊥
-entries_not_missing kind null ds e h = none-some ds e
-entries_not_missing kind v ds e h = h
+entries_not_missing kind v ds e h = grind arith
 
 stated_by : (d : Data) (ms : Members) (x : Integration) → as_object d ≡ Some ms → IsOfMember ms x → StatesIntegration d x
 stated_by d ms x is_object is = go is.has is.within
@@ -216,8 +210,6 @@ stated_by d ms x is_object is = go is.has is.within
         }
 
 same_said : (o : Option Data) (a b : Option Bool) → StatesIf IsFlag o a → StatesIf IsFlag o b → a ≡ b
-same_said None None None h k = refl
-same_said (Some v) (Some x) (Some y) h k = sym h ∙ k
 same_said o a b h k = grind arith
 
 same_entry : (kind : Text) (i : ℕ) (e : Data) (x y : Integration) → IsIntegration kind i e x → IsIntegration kind i e y → x ≡ y

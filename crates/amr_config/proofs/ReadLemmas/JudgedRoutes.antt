@@ -1,5 +1,5 @@
 -- What is read of the routes, and of a whole configuration, states what is there, and a refusal is that of the first fault.
-use Rattle.std.proofs.Common.{◌≡◌, ℕ, zero, suc, ◌+◌, false, true≢false, List, [], ◌∷◌, ◌++◌, length, Option, Some, None, Ok, refl, sym, ap, subst, ◌∙◌, append_assoc, length-append, codes, unwrap_or, append-nil}
+use Rattle.std.proofs.Common.{arith, ◌≡◌, ℕ, zero, suc, ◌+◌, false, true≢false, List, [], ◌∷◌, ◌++◌, length, Option, Some, None, Ok, refl, sym, ap, subst, ◌∙◌, append_assoc, length-append, codes, unwrap_or, append-nil}
 use Rattle.std.specs.Option.{option_map_or}
 use Rattle.std.proofs.lemmas.Bool.{or_parts}
 use Rattle.serde_json.specs.Data.{Data, Items, no_items, item}
@@ -25,9 +25,7 @@ use Rattle.amr_config.proofs.ReadLemmas.JudgedMatchers.{walk_matchers, walk_rule
 -- ---- what a route states itself
 
 grouped : (o : Option Data) (names : Option (List Text)) → StatesIf (IsListOf IsText) o names → StatesIf IsGrouping o (grouping_stated names)
-grouped None None h = tt
-grouped (Some v) (Some names) h = (names, h, refl)
-grouped o names h = absurd h
+grouped o names h = grind arith
 
 -- a route added to those before it
 abbrev pub AddsRoute : Data → Option ℕ → Data → List Route → List Route → Type 0

@@ -1,5 +1,5 @@
 -- A configuration is refused as too deep exactly if one of its routes is too deep.
-use Rattle.std.proofs.Common.{◌≡◌, ◌≢◌, false, List, Some, Result, Ok, Err, subst, inl, inr, arith}
+use Rattle.std.proofs.Common.{◌≡◌, ◌≢◌, false, List, Some, Result, Err, subst, inl, inr, arith}
 use Rattle.serde_json.specs.Data.{Data}
 use Rattle.amr_config.specs.declared.read.error.Refusal.{Refusal}
 use Rattle.amr_config.specs.declared.read.error.Refusal.TheVariants.{Other}
@@ -23,8 +23,7 @@ unfolding refusal_of
 judged stated e = grind arith
 
 not_deep : (r : Result Stated Refusal) (findings : List Finding) (P : Stated → Type 0) → Tells r findings P → value_after r (λ stated. plain (unless_refused stated (refusal_of stated))) ≡ Err (Other TooDeep) → ⊥
-not_deep (Ok stated) findings P t e = grind (arith, judged stated)
-not_deep (Err refusal) findings P t e = grind arith
+not_deep r findings P t e = grind (arith, judged)
 
 shallow_config : (d : Data) → is_too_deep d ≡ false → config_of d ≡ Err (Other TooDeep) → ⊥
 unfolding reading_of next
@@ -39,8 +38,7 @@ deep_is_refused d = (λ refused. deep_route_of d (grind (arith, shallow_config d
 -- ---- answers if a pattern may be refused
 
 only_answer : (reading : Reading Config) (answer : Result Config Refusal) → reading ≡ plain (Err (Other TooDeep)) → MayGive reading answer → answer ≡ Err (Other TooDeep)
-only_answer reading (Ok config) is h = grind arith
-only_answer reading (Err refusal) is h = grind arith
+only_answer reading answer is h = grind arith
 
 answered_deep : (reading : Reading Config) → MayGive reading (Err (Other TooDeep)) → reading.value ≡ Err (Other TooDeep)
 answered_deep reading (inl h) = h

@@ -25,7 +25,7 @@ use Rattle.amr_config.specs.Read.ReadLaws.{RoutesAreInPreorder, ReadConfigsAreWh
 use Rattle.amr_config.proofs.Lines.{line_of-child}
 use Rattle.amr_config.proofs.ReadLemmas.NameSets.{named_apart}
 use Rattle.amr_config.proofs.ReadLemmas.TreeOrder.{IsAbove, Itself, Further, IsTree, walked_tree, parent_within, parents_first}
-use Rattle.std.proofs.lemmas.Option.{same_Some, get_or_from_slice_get, slice_get_past}
+use Rattle.std.proofs.lemmas.Option.{same_Some, slice_get_cases}
 
 -- what was parsed for a configuration, and was validated
 pub record WasJudged (d : Data) (config : Config) : Type 0 where
@@ -75,18 +75,14 @@ good : (stated : Stated) → refusal_of stated ≡ None → IsGood stated
 unfolding refusal_of
 good stated h = record { none_lost = grind arith; apart = grind arith; root = grind arith }
 
-none_of : {X : Type 0} (p : X → Bool) (xs : List X) (n : ℕ) (x : X) → list_any p xs ≡ false → slice_get xs n ≡ Some x → p x ≡ false
-none_of p xs n x none at = grind (arith, list_any_at p xs n x, get_or_from_slice_get xs n x x, slice_get_past xs n)
+none_of : {X : Type 0} (p : X → Bool) (xs : List X) (n : ℕ) → list_any p xs ≡ false → option_map_or p (slice_get xs n) false ≡ false
+none_of p xs n none = grind (arith, list_any_at p xs n, slice_get_cases xs n)
 
 -- ---- receivers
 
 all_known : (stated : Stated) → IsGood stated → (n : ℕ) (name : Text) → stated_receiver (stated_config stated) n ≡ Some name → is_receiver (stated_config stated) name ≡ true
 unfolding is_known is_lost
-all_known stated is n name states = go (slice_get stated.routes n) refl states
-  where
-    go : (o : Option Route) → slice_get stated.routes n ≡ o → option_map_or (λ (route : Route). route.receiver) o None ≡ Some name → is_receiver (stated_config stated) name ≡ true
-    go None at states = absurd (cc)
-    go (Some route) at states = grind (arith, none_of (is_lost stated.receivers) stated.routes n route is.none_lost at)
+all_known stated is n name states = grind (arith, none_of (is_lost stated.receivers) stated.routes n is.none_lost)
 
 -- ---- the root
 
