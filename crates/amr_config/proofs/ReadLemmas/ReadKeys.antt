@@ -1,7 +1,7 @@
 -- In a value that is read from a text each object has each key once, in order.
-use Rattle.std.proofs.Common.{◌≡◌, ℕ, List, Option, Some, None, refl, ap, ◌∙◌, option_and_then, Ordering, Less, Equal, Greater, arith}
+use Rattle.std.proofs.Common.{◌≡◌, ℕ, List, Option, Some, None, refl, option_and_then, Ordering, Less, Equal, Greater, arith}
 use Rattle.std.specs.Cmp.Lexicographic.{nat_list_cmp_total}
-use Rattle.std.specs.Ordering.{match_ordering, ordering_reverse}
+use Rattle.std.specs.Ordering.{match_ordering}
 use Rattle.std.proofs.lemmas.Option.{none-some}
 use Rattle.json.specs.Json as json
 use Rattle.serde_json.specs.Data.{Data, Items, Members, no_members, member, put}
@@ -21,19 +21,15 @@ by_order P Greater x y z less equal greater = greater refl
 
 put_below : (a k : Text) (d : Data) (ms : Members) → text_cmp a k ≡ Less → IsBelow a ms → IsBelow a (put k d ms)
 put_below a k d no_members less below = (less, tt)
-put_below a k d (member l e ms) less below =
-    by_order (IsBelow a) (text_cmp k l) _ _ _ (λ is. (less, below)) (λ is. below) (λ is. (below.0, put_below a k d ms less below.1))
+put_below a k d (member l e ms) less below = grind (arith, put_below a k d ms)
 
 put_in_order : (k : Text) (d : Data) (ms : Members) → AreInOrder ms → AreInOrder (put k d ms)
 put_in_order k d no_members order = (tt, tt)
-put_in_order k d (member l e ms) order =
-    by_order AreInOrder (text_cmp k l) _ _ _ (λ is. ((is, below_trans k l ms is order.0), order)) (λ is. order)
-    (λ is. (put_below l k d ms (nat_list_cmp_total.antisymm l k ∙ ap ordering_reverse is) order.0, put_in_order k d ms order.1))
+put_in_order k d (member l e ms) order = grind (arith, below_trans k l ms, put_below l k d ms, put_in_order k d ms, nat_list_cmp_total.antisymm l k)
 
 put_ordered : (k : Text) (d : Data) (ms : Members) → HasOrderedKeys d → AllHaveOrderedKeys ms → AllHaveOrderedKeys (put k d ms)
 put_ordered k d no_members one all = (one, tt)
-put_ordered k d (member l e ms) one all =
-    by_order AllHaveOrderedKeys (text_cmp k l) _ _ _ (λ is. (one, all)) (λ is. (one, all.1)) (λ is. (all.0, put_ordered k d ms one all.1))
+put_ordered k d (member l e ms) one all = grind (arith, put_ordered k d ms)
 
 chained : {A B : Type 0} (f : A → Option B) (o : Option A) (b : B) → option_and_then f o ≡ Some b → (a : A) × (o ≡ Some a) × (f a ≡ Some b)
 chained f None b e = absurd (none-some b e)

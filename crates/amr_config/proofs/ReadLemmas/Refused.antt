@@ -1,5 +1,5 @@
 -- A configuration is refused as too deep exactly if one of its routes is too deep.
-use Rattle.std.proofs.Common.{◌≡◌, ◌≢◌, false, List, Some, Result, Err, subst, inl, inr, arith}
+use Rattle.std.proofs.Common.{◌≡◌, false, List, Result, Err, subst, inl, inr, arith}
 use Rattle.serde_json.specs.Data.{Data}
 use Rattle.amr_config.specs.declared.read.error.Refusal.{Refusal}
 use Rattle.amr_config.specs.declared.read.error.Refusal.TheVariants.{Other}
@@ -18,12 +18,9 @@ use Rattle.amr_config.specs.Read.Faults.{Finding, findings_of}
 use Rattle.amr_config.proofs.ReadLemmas.Judged.{Tells}
 use Rattle.amr_config.proofs.ReadLemmas.JudgedRoutes.{walked_judged}
 
-judged : (stated : Stated) → refusal_of stated ≢ Some (Other TooDeep)
-unfolding refusal_of
-judged stated e = grind arith
-
 not_deep : (r : Result Stated Refusal) (findings : List Finding) (P : Stated → Type 0) → Tells r findings P → value_after r (λ stated. plain (unless_refused stated (refusal_of stated))) ≡ Err (Other TooDeep) → ⊥
-not_deep r findings P t e = grind (arith, judged)
+unfolding refusal_of
+not_deep r findings P t e = grind arith
 
 shallow_config : (d : Data) → is_too_deep d ≡ false → config_of d ≡ Err (Other TooDeep) → ⊥
 unfolding reading_of next
