@@ -1,7 +1,7 @@
 -- Values at places: what setting one changes, and what a place more adds.
 use Rattle.std.proofs.Common.{◌≡◌, ◌≢◌, ℕ, suc, List, [], ◌∷◌, ◌++◌, Option, None, length, arith, slice_set}
 use Rattle.std.proofs.lemmas.Option.{unwrap_or-slice_get}
-use Rattle.std.proofs.lemmas.List.{get_or-set_other, set-get_or, length_push}
+use Rattle.std.proofs.lemmas.List.{get_or-set_other, length_push}
 use Rattle.amr_tables.specs.Places.{value_at}
 
 -- the other places keep their values
@@ -10,7 +10,3 @@ value_apart cells n m v h = grind (arith, unwrap_or-slice_get (slice_set cells n
 
 pub length-push : {A : Type 0} (xs : List A) (x : A) → length (xs ++ x ∷ []) ≡ suc (length xs)
 length-push xs x = omega (arith, length_push xs x)
-
--- a value that is there already changes nothing
-pub same_value_set : {V : Type 0} (cells : List (Option V)) (n : ℕ) (v : Option V) → value_at cells n ≡ v → cells ≡ slice_set cells n v
-same_value_set cells n v e = grind (arith, set-get_or cells n None, unwrap_or-slice_get cells n None, e)

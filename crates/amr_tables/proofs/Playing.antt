@@ -84,18 +84,6 @@ pub now : (rank : ℕ → ℕ → Ordering) {moments : List (Option ℕ)} (u v :
 now rank u v node k are kept noted inner nodes =
     grind (arith, nat_tests, get_or-set_same u.winners node (later_winner rank u node) 0, get_or-set_other u.winners node k (later_winner rank u node) 0, are, kept, noted, inner, nodes)
 
--- after the last nodes a node was played
-pub played_from : (rank : ℕ → ℕ → Ordering) (t u : Tournament) (node : ℕ) → u.moments ≡ t.moments → u.winners ≡ slice_set t.winners node (later_winner rank t node) → node < length t.moments → length t.winners ≡ length t.moments
-    → ((j : ℕ) → 1 ≤ j → node < j → j < length t.moments → winner_at t j ≡ later_winner rank t j)
-    → (j : ℕ) → 1 ≤ j → node ≤ j → j < length u.moments → winner_at u j ≡ later_winner rank u j
-played_from rank t u node kept noted inner nodes played j some from within =
-    by (winner_at t) (winner_at u) (better rank t.moments) (λ k. now rank t u node k refl kept noted inner nodes) (played j some) (omega (arith, ap length kept))
-    ∙ ap (λ ms. better rank ms (winner_at u (j * 2)) (winner_at u (j * 2 + 1))) (sym kept)
-  where
-    by : (W V : ℕ → ℕ) (pick : ℕ → ℕ → ℕ) → ((k : ℕ) → V k ≡ (if k == node then pick (W (node * 2)) (W (node * 2 + 1)) else W k)) → (node < j → j < length t.moments → W j ≡ pick (W (j * 2)) (W (j * 2 + 1))) → j < length t.moments
-        → V j ≡ pick (V (j * 2)) (V (j * 2 + 1))
-    by W V pick now played inner = grind (arith, nat_tests, now j, now (j * 2), now (j * 2 + 1), played, inner)
-
 -- ---- what a new moment changes
 
 -- The winners W of the nodes below N, after the number n got a new moment, and V, after matches were

@@ -1,5 +1,5 @@
 -- A queue of moments with their numbers: what it loses and gains at its ends.
-use Rattle.std.proofs.Common.{◌≡◌, ◌≢◌, inl, inr, ℕ, ◌<◌, ◌-◌, nat_lt, true, List, [], ◌∷◌, ◌++◌, length, Option, Some, None, is_some, refl, subst, arith}
+use Rattle.std.proofs.Common.{◌≡◌, ◌≢◌, ℕ, ◌<◌, ◌-◌, nat_lt, true, List, [], ◌∷◌, ◌++◌, length, Option, Some, None, is_some, refl, subst, arith}
 use Rattle.std.specs.Prelude.{◌⊎◌, slice_get, slice_set, slice_index_or, unwrap_or}
 use Rattle.std.specs.List.{last_or}
 use Rattle.std.specs.Option.{option_to_list}
@@ -13,13 +13,9 @@ use Rattle.amr_tables.proofs.Present.{get_set}
 
 -- ---- what stands in a queue
 
-pub stands_more : (queue : List NumberedMoment) (s x : NumberedMoment) → StandsIn queue x → StandsIn (queue ++ s ∷ []) x
-stands_more [] s x h = absurd h
+pub stands_more : (queue : List NumberedMoment) (s x : NumberedMoment) → (s ≡ x) ⊎ StandsIn queue x → StandsIn (queue ++ s ∷ []) x
+stands_more [] s x h = h
 stands_more (y ∷ queue) s x h = let rest = stands_more queue s x in grind (arith, rest, h)
-
-stands_last : (queue : List NumberedMoment) (s : NumberedMoment) → StandsIn (queue ++ s ∷ []) s
-stands_last [] s = inl refl
-stands_last (y ∷ queue) s = inr (stands_last queue s)
 
 stands_before : (queue : List NumberedMoment) (r : Option NumberedMoment) (x : NumberedMoment) → StandsIn (queue ++ option_to_list r) x → (r ≡ Some x) ⊎ StandsIn queue x
 stands_before [] r x h = grind (arith, h)
@@ -95,7 +91,7 @@ module _ (moments : ℕ → Option ℕ) (s : NumberedMoment) (now : IsCurrent mo
     held_last queue = held_more (λ x h. grind (arith, stands_before e.queue (Some s) x, queue, rest, h))
 
     pub kept_last : (rank : ℕ → ℕ → Ordering) → u.queue ≡ e.queue ++ s ∷ [] → are_in_order rank (last_or None e.queue) (Some s) ≡ true → AreKept rank (changed_back moments s.number None) e → AreKept rank moments u
-    kept_last rank queue order kept = joins rank (rw queue (queue_longer rank e.queue s order kept.queue)) (rw rest kept.rest) (grind (arith, stands_last e.queue s, queue)) (λ x apart h. grind (arith, stands_more e.queue s x, queue, rest, h)) kept
+    kept_last rank queue order kept = joins rank (rw queue (queue_longer rank e.queue s order kept.queue)) (rw rest kept.rest) (grind (arith, stands_more e.queue s s, queue)) (λ x apart h. grind (arith, stands_more e.queue s x, queue, rest, h)) kept
 
     pub kept_first : (rank : ℕ → ℕ → Ordering) → u.queue ≡ s ∷ e.queue → are_in_order rank (Some s) (slice_get e.queue 0) ≡ true → AreKept rank (changed_back moments s.number None) e → AreKept rank moments u
     kept_first rank queue order kept = joins rank (rw queue (queue_earlier rank s e.queue order kept.queue)) (rw rest kept.rest) (grind (arith, queue)) (λ x apart h. grind (arith, queue, rest, h)) kept

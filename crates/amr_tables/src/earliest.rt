@@ -83,6 +83,7 @@ impl Earliest {
     /// Takes up the moment that a number has in the schedule now, given the one that it had before.
     /// It takes no memory, and next to no time if the moment is the last or the first of the queue.
     #[inline(always)]
+    #[tactic(auto, using(crate::proofs::Firsts::changed_nothing, crate::proofs::Firsts::without))]
     pub fn update<S: Schedule>(&mut self, schedule: &S, number: usize, former: Option<u128>)
         requires room { number < room self.old }
         requires kept { IsOrdered (S.rank schedule.now)
@@ -174,6 +175,7 @@ impl Earliest {
     /// Lets the moment that a number has now stand: at the front of the queue if it is in order
     /// there, else among the rest.
     #[inline(never)]
+    #[tactic(auto, using(crate::proofs::Queueing::kept_first, crate::proofs::Queueing::held_rest))]
     fn insert_before<S: Schedule>(&mut self, schedule: &S, standing: NumberedMoment)
         requires room { standing.number < room self.old }
         requires current { IsCurrent (S.moments schedule.now) standing }
@@ -208,6 +210,7 @@ impl Earliest {
     }
 
     /// Drops moments from the front of the queue, as long as they aren't current.
+    #[tactic(auto, using(crate::proofs::Queueing::first_leaves))]
     fn drop_first<S: Schedule>(&mut self, schedule: &S)
         ensures rest { self.new.rest ≡ self.old.rest }
         ensures queue { (s : NumberedMoment)
@@ -222,6 +225,7 @@ impl Earliest {
     }
 
     /// Takes the winners of the rest out, as long as they aren't current.
+    #[tactic(auto, using(crate::proofs::Firsts::winner_leaves_fewer))]
     fn drop_winners<S: Schedule>(&mut self, schedule: &S)
         requires { AreKept (S.rank schedule.now) (S.moments schedule.now) self.old }
         ensures queue { self.new.queue ≡ self.old.queue }

@@ -65,6 +65,7 @@ impl Grouped {
 
     /// Makes room for so many groups, which is at most one more than there is. A new one has no
     /// numbers.
+    #[tactic(auto, using(crate::proofs::Present::present_same, crate::proofs::Present::count_more))]
     pub fn reserve_groups(&mut self, count: usize) -> Result<(), AllocError>
         requires { count ≤ length self.old.rooms + 1 }
         ensures room { OnOk result (count ≤ length self.new.rooms) }

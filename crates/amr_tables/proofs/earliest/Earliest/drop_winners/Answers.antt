@@ -1,11 +1,7 @@
 use Rattle.std.proofs.Common.{◌∙◌, None, length, length-set, ap, slice_set}
 use Rattle.amr_tables.specs.Earliest.{Earliest}
-use Rattle.amr_tables.proofs.Firsts.{winner_leaves_fewer, held_without_winner, winner_leaves}
+use Rattle.amr_tables.proofs.Firsts.{held_without_winner, winner_leaves}
 use Rattle.amr_tables.proofs.earliest.Earliest.drop_winners.Goals as goal
-
-pub loop-number-smaller : goal.loop-number-smaller
-loop-number-smaller g c =
-    winner_leaves_fewer c.loop-number.self.rest c.in-Some.number (c.set.ensures.moments ∙ ap (λ (x : Earliest). slice_set x.rest.moments c.in-Some.number None) c.self.view_is) c.in-Some.ensures.some.0
 
 pub loop-number-preserved : goal.loop-number-preserved
 loop-number-preserved g c =

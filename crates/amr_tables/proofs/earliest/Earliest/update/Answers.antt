@@ -1,17 +1,9 @@
-use Rattle.std.proofs.Common.{rules, inl, None, ap, sym, subst, ◌∙◌}
+use Rattle.std.proofs.Common.{inl, None, ap, sym, subst, ◌∙◌}
 use Rattle.amr_tables.specs.Tournament.{Tournament, moment_at}
 use Rattle.amr_tables.specs.Earliest.{IsHeld}
 use Rattle.amr_tables.proofs.Firsts.{changed_nothing, without, held_shorter}
 use Rattle.amr_tables.proofs.earliest.Earliest.update.Goals as goal
 use Rattle.amr_tables.proofs.earliest.Earliest.update.Goals.{in-Some, in_default}
-
-pub returns-then-eq-clause-kept : goal.returns-then-eq-clause-kept
-returns-then-eq-clause-kept g c =
-    rw (← changed_nothing (g.S.Schedule.moments c.args.schedule.now) c.args.number c.args.former (sym c.moment-moment.ensures ∙ search rules)) c.requires.kept
-
-pub insert-requires-clause-kept : goal.insert-requires-clause-kept
-insert-requires-clause-kept g c =
-    without (g.S.Schedule.moments c.args.schedule.now) c.args.number (g.S.Schedule.rank c.args.schedule.now) c.args.former c.args.self.now c.requires.kept.kept
 
 pub drop_winners-requires : goal.drop_winners-requires
 drop_winners-requires g c =

@@ -1,6 +1,7 @@
-use Rattle.std.proofs.Common.{rules, ◌≡◌, ◌<◌, ◌≤◌, ◌/◌, length, length-set, refl, slice_set, sym, ap, subst, ◌∙◌, arith}
+use Rattle.std.proofs.Common.{None, ◌≡◌, ◌<◌, ◌≤◌, ◌/◌, length, length-set, refl, slice_set, sym, ap, subst, ◌∙◌, arith}
 use Rattle.amr_tables.specs.Tournament.{Tournament, IsTournament}
-use Rattle.amr_tables.proofs.Placing.{same_value_set}
+use Rattle.std.proofs.lemmas.Option.{unwrap_or-slice_get}
+use Rattle.std.proofs.lemmas.List.{set-get_or}
 use Rattle.amr_tables.proofs.Playing.{IsClimbed, begun, climbs, ended, now, half_as_was, stopped_at}
 use Rattle.amr_tables.proofs.tournament.Tournament.set.Given.{Over}
 use Rattle.amr_tables.proofs.tournament.Tournament.set.Goals.{After-play-former}
@@ -51,4 +52,4 @@ pub returns-clause-kept : goal.returns-clause-kept
 returns-clause-kept g c = ended _ _ c.loop-node.self c.loop-node.invariant.climbed c.loop-node.invariant.moments c.loop-node-test.false
 
 pub returns-then-eq-clause-moments : goal.returns-then-eq-clause-moments
-returns-then-eq-clause-moments g c = same_value_set c.args.self.now.moments c.args.number c.args.moment (sym c.at.ensures ∙ search rules)
+returns-then-eq-clause-moments g c = grind (arith, set-get_or c.args.self.now.moments c.args.number None, unwrap_or-slice_get c.args.self.now.moments c.args.number None, c.at.ensures)
