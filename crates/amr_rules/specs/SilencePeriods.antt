@@ -1,8 +1,9 @@
 -- From when to when the silences that match labels mute them, for a question that is asked at many
 -- moments.
-use Rattle.std.specs.Prelude.{ℕ, Bool, not, ◌&&◌, List, [], ◌∷◌, ◌++◌, if◌then◌else◌, Option, map, option_map, nat_le, nat_lt}
-use Rattle.std.specs.List.{find, filter}
-use Rattle.amr_labels.specs.Map.{entries}
+use Rattle.std.specs.Prelude.{◌≡◌, ℕ, Bool, not, ◌&&◌, List, [], ◌∷◌, ◌++◌, if◌then◌else◌, Option, None, Some, map, min, nat_le, nat_lt}
+use Rattle.std.specs.List.{filter, cons_option}
+use Rattle.std.specs.Ordering.{nat_cmp, eq_by_cmp}
+use Rattle.amr_labels.specs.Map.{entries, get}
 use Rattle.amr_labels.specs.Labels.{LabelSet}
 use Rattle.amr_labels.specs.Matcher.Matchers.{all_hold}
 use Rattle.amr_time.specs.Time.{Moment}
@@ -44,6 +45,27 @@ added_where period [] each = each
 abbrev pub covers : Moment → SilencePeriod → Bool
 covers now period = nat_le period.starts_at now && nat_lt now period.ends_at
 
--- the id of the first period that covers the moment
+-- the lesser of two ids, or the only one
+abbrev pub lesser_id : Option ℕ → Option ℕ → Option ℕ
+lesser_id None other = other
+lesser_id (Some id) None = Some id
+lesser_id (Some id) (Some other) = Some (min id other)
+
+-- the least id of the periods that cover the moment
 abbrev pub silenced_in : Moment → List SilencePeriod → Option ℕ
-silenced_in now periods = option_map (λ period. period.id) (find (covers now) periods)
+silenced_in now [] = None
+silenced_in now (period ∷ periods) = lesser_id (if covers now period then Some period.id else None) (silenced_in now periods)
+
+-- the periods of the silence with this id
+abbrev pub periods_of : ℕ → List SilencePeriod → List SilencePeriod
+periods_of id = filter (λ period. eq_by_cmp nat_cmp id period.id)
+
+-- when a silence mutes the labels from a moment on, if it may
+abbrev pub period_from : Moment → LabelSet → ℕ → Option Silence → Option SilencePeriod
+period_from from labels id None = None
+period_from from labels id (Some silence) = if may_silence from labels silence then Some (period_of (id, silence)) else None
+
+-- among the periods there is that of the silence with this id and no other one, and none if it
+-- doesn't mute the labels from the moment on
+abbrev pub IsListed : Moment → LabelSet → Silences → List SilencePeriod → ℕ → Type 0
+IsListed from labels silences periods id = periods_of id periods ≡ cons_option (period_from from labels id (get silences id)) []

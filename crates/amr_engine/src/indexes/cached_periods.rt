@@ -1,22 +1,19 @@
 //! What is cached of a label set: when the silences that match it are active. When silences change,
 //! only those are asked that did. `silence_table.rt` keeps one of these for each label set that
 //! flushes asked about.
-ghost use Rattle.std.specs.Prelude.{◌≡◌, ◌≤◌, ◌++◌, length, OnOk, OnErr, IfOk, IfSome, if◌then◌else◌, Some, None};
-ghost use Rattle.std.specs.List.{filter};
+ghost use Rattle.std.specs.Prelude.{◌≡◌, ◌≤◌, [], ◌++◌, length, OnOk, OnErr, IfOk, IfSome};
+ghost use Rattle.std.specs.List.{filter, cons_option};
 ghost use Rattle.std.specs.Ordering.{nat_cmp};
-ghost use Rattle.amr_labels.specs.Map.{get};
-ghost use Rattle.amr_labels.specs.Matcher.Matchers.{all_hold};
 ghost use Rattle.amr_tables.specs.Numbered.{map_of};
-ghost use Rattle.amr_rules.specs.SilencePeriods.{period_of};
 
 use crate::indexes::silence_change::SilenceChange;
 use amr_events::posts::SilenceId;
 use amr_labels::matcher::MatchCache;
 use amr_labels::{Labels, Listing};
-use amr_rules::{Silence, SilencePeriod};
+use amr_rules::{Silence, SilencePeriod, may_silence};
 use amr_tables::Keyed;
 use amr_time::Moment;
-use std::alloc::{AllocError, Global};
+use std::alloc::AllocError;
 
 /// When silences that match a label set are active, from a moment on.
 #[derive(Drop)]
@@ -32,7 +29,7 @@ pub(crate) struct CachedPeriods {
     pub(crate) periods: Listing<SilencePeriod>,
 }
 
-ghost use Rattle.amr_engine.specs.Indexes.CachedSilences.{is_below, is_above, ends_after, without_silence, with_period, with_silence_noted, period_from, changed_ids, may_concern, next_concern, passed_by, AreNoted, IsCached};
+ghost use Rattle.amr_engine.specs.Indexes.CachedSilences.{ends_after, without_silence, noted_period, AreNoted, IsCached};
 
 impl CachedPeriods {
     /// Takes in the changes of silences that it hasn't seen, so that the periods are those of the
@@ -40,7 +37,6 @@ impl CachedPeriods {
     /// memory runs out, it has taken in some of them.
     pub(crate) fn catch_up(
         &mut self,
-        alloc: Global,
         answers: &mut MatchCache,
         silences: &Keyed<SilenceId, Silence>,
         changes: &[SilenceChange],
@@ -48,10 +44,8 @@ impl CachedPeriods {
     ) -> Result<(), AllocError>
         requires before { self.old.from ≤ at }
         requires noted { AreNoted (map_of nat_cmp silences.now) changes.now }
-        requires cached { IsCached (map_of nat_cmp silences.now) (changed_ids changes.now)
-            self.old }
-        ensures cached { IsCached (map_of nat_cmp silences.now) (changed_ids changes.now)
-            self.new }
+        requires cached { IsCached (map_of nat_cmp silences.now) changes.now self.old }
+        ensures cached { IsCached (map_of nat_cmp silences.now) changes.now self.new }
         ensures version { OnOk result (self.new.version ≡ length changes.now) }
         ensures labels { self.new.labels ≡ self.old.labels }
         ensures from { self.new.from ≤ at }
@@ -60,42 +54,11 @@ impl CachedPeriods {
             return Ok(());
         }
         self.leave_out_ended(at);
-        for _turn in self.version..changes.len() {
-            self.pass_over(changes);
-            if self.version >= changes.len() {
-                return Ok(());
-            }
-            let index = self.version;
-            self.take_in(alloc, answers, silences, &changes[index])?;
+        for index in self.version..changes.len() {
+            self.take_in(answers, silences, &changes[index])?;
             self.version = index + 1;
         }
         Ok(())
-    }
-
-    /// Passes over the changes before the next one that may concern the labels. If there are
-    /// periods, it passes over none, since any change may end one.
-    fn pass_over(&mut self, changes: &[SilenceChange])
-        requires { self.old.version ≤ length changes.now }
-        ensures { self.new ≡ passed_by changes.now self.old }
-    {
-        if self.periods.is_empty() {
-            self.version = self.next_concern(changes);
-        }
-    }
-
-    /// Returns the index of the next change that may concern the labels, or the number of changes
-    /// if none does.
-    fn next_concern(&self, changes: &[SilenceChange]) -> usize
-        requires { self.now.version ≤ length changes.now }
-        ensures { result ≡ next_concern self.now.from self.now.bits changes.now self.now.version }
-    {
-        let (from, bits) = (self.from, self.bits);
-        for index in self.version..changes.len() {
-            if changes[index].may_concern(from, bits) {
-                return index;
-            }
-        }
-        changes.len()
     }
 
     /// Leaves out the periods that have ended by a moment, and is complete from then on. It takes no
@@ -106,94 +69,61 @@ impl CachedPeriods {
           periods = filter (ends_after at) self.old.periods;
         } }
     {
-        keep_unended(&mut self.periods, at);
+        self.periods.retain(|period| at < period.ends_at);
         self.from = at;
     }
 
-    /// Takes in that a silence changed. It looks for the silence only if that may mute the labels.
+    /// Takes in that a silence changed. If memory runs out, it has left out the silence's period.
     fn take_in(
         &mut self,
-        alloc: Global,
         answers: &mut MatchCache,
         silences: &Keyed<SilenceId, Silence>,
         change: &SilenceChange,
     ) -> Result<(), AllocError>
-        ensures noted { OnOk result (self.new ≡ record self.old {
-          periods = if may_concern self.old.from self.old.bits change.now
-              then with_silence_noted change.now.id
-              (period_from self.old.from self.old.labels change.now.id
-              (get (map_of nat_cmp silences.now) change.now.id))
-              self.old.periods
-              else without_silence change.now.id self.old.periods;
+        ensures ok { OnOk result (self.new ≡ record self.old {
+          periods = without_silence change.now.id self.old.periods
+              ++ cons_option (noted_period (map_of nat_cmp silences.now) change.now self.old) [];
         }) }
-        ensures err { OnErr result (self.new ≡ self.old) }
+        ensures err { OnErr result (self.new ≡ record self.old {
+          periods = without_silence change.now.id self.old.periods;
+        }) }
     {
-        if change.may_concern(self.from, self.bits) {
-            return self.ask_present(alloc, answers, silences, &change.id);
+        keep_others(&mut self.periods, &change.id);
+        if let Some(period) = self.period(answers, silences, change)? {
+            self.periods.push(period)?;
         }
-        self.leave_out(&change.id);
         Ok(())
     }
 
-    /// Takes in the period of the silence with this id, if it hasn't ended and matches the labels.
-    fn ask_present(
-        &mut self,
-        alloc: Global,
+    /// Returns when a silence that changed mutes the labels, if it may. It looks for the silence
+    /// only if its change doesn't show that it can't.
+    fn period(
+        &self,
         answers: &mut MatchCache,
         silences: &Keyed<SilenceId, Silence>,
-        id: &SilenceId,
-    ) -> Result<(), AllocError>
-        ensures noted { OnOk result (self.new ≡ record self.old {
-          periods = with_silence_noted id.now
-              (period_from self.old.from self.old.labels id.now
-              (get (map_of nat_cmp silences.now) id.now))
-              self.old.periods;
-        }) }
-        ensures err { OnErr result (self.new ≡ self.old) }
+        change: &SilenceChange,
+    ) -> Result<Option<SilencePeriod>, AllocError>
+        ensures { IfOk result (λ period. period
+            ≡ noted_period (map_of nat_cmp silences.now) change.now self.now) }
     {
-        match silences.get(id) {
-            Some(silence) if self.from < silence.ends_at => {
-                self.ask(alloc, answers, id, silence)
+        if !change.may_concern(self.from, self.bits) {
+            return Ok(None);
+        }
+        match silences.get(&change.id) {
+            Some(silence) if may_silence(answers, self.from, silence, &self.labels)? => {
+                Ok(Some(SilencePeriod::of(change.id, silence)))
             }
-            _ => {
-                self.leave_out(id);
-                Ok(())
-            }
+            _ => Ok(None),
         }
     }
+}
 
-    /// Takes in the period of a silence that hasn't ended, if it matches the labels.
-    fn ask(
-        &mut self,
-        alloc: Global,
-        answers: &mut MatchCache,
-        id: &SilenceId,
-        silence: &Silence,
-    ) -> Result<(), AllocError>
-        ensures noted { OnOk result (self.new ≡ record self.old {
-          periods = with_silence_noted id.now
-              (if all_hold silence.now.matchers self.old.labels
-              then Some (period_of (id.now, silence.now)) else None)
-              self.old.periods;
-        }) }
-        ensures err { OnErr result (self.new ≡ self.old) }
-    {
-        if !silence.matchers.matches_all(answers, &self.labels)? {
-            self.leave_out(id);
-            return Ok(());
-        }
-        let period = SilencePeriod::of(*id, silence);
-        self.periods = with_period(alloc, self.periods.as_slice(), period)?;
-        Ok(())
-    }
-
-    /// Leaves out the period of a silence, if there is one. It takes no memory.
-    fn leave_out(&mut self, id: &SilenceId)
-        ensures { self.new ≡ record self.old {
-          periods = without_silence id.now self.old.periods;
-        } }
-    {
-        keep_others(&mut self.periods, id);
+/// Keeps the periods of other silences. It takes no memory.
+fn keep_others(periods: &mut Listing<SilencePeriod>, id: &SilenceId)
+    ensures { periods.new ≡ without_silence id.now periods.old }
+{
+    if !periods.is_empty() {
+        periods.retain(|period| *id != period.id);
     }
 }
 
@@ -201,7 +131,6 @@ impl CachedPeriods {
 /// first takes in the changes of silences.
 pub(crate) fn is_caught_up(
     place: &mut Option<CachedPeriods>,
-    alloc: Global,
     answers: &mut MatchCache,
     silences: &Keyed<SilenceId, Silence>,
     changes: &[SilenceChange],
@@ -209,77 +138,14 @@ pub(crate) fn is_caught_up(
     labels: &Labels,
 ) -> Result<bool, AllocError>
     requires noted { AreNoted (map_of nat_cmp silences.now) changes.now }
-    requires cached { IfSome place.old
-        (IsCached (map_of nat_cmp silences.now) (changed_ids changes.now)) }
-    ensures { IfSome place.new
-        (IsCached (map_of nat_cmp silences.now) (changed_ids changes.now)) }
+    requires cached { IfSome place.old (IsCached (map_of nat_cmp silences.now) changes.now) }
+    ensures { IfSome place.new (IsCached (map_of nat_cmp silences.now) changes.now) }
 {
     match place {
         Some(cached) if cached.from <= at && cached.labels == *labels => {
-            cached.catch_up(alloc, answers, silences, changes, at)?;
+            cached.catch_up(answers, silences, changes, at)?;
             Ok(true)
         }
         _ => Ok(false),
     }
-}
-
-/// Keeps the periods that end after a moment.
-fn keep_unended(periods: &mut Listing<SilencePeriod>, at: Moment)
-    ensures { periods.new ≡ filter (ends_after at) periods.old }
-{
-    periods.retain(|period| at < period.ends_at);
-}
-
-/// Keeps the periods of other silences.
-fn keep_others(periods: &mut Listing<SilencePeriod>, id: &SilenceId)
-    ensures { periods.new ≡ without_silence id.now periods.old }
-{
-    periods.retain(|period| *id != period.id);
-}
-
-/// Copies the periods, with this one in place of that of the same silence, in the order of the ids.
-fn with_period(
-    alloc: Global,
-    periods: &[SilencePeriod],
-    period: SilencePeriod,
-) -> Result<Listing<SilencePeriod>, AllocError>
-    ensures { IfOk result (λ copy. copy ≡ with_period period periods.now) }
-{
-    let mut copy = Listing::new(alloc);
-    push_below(&mut copy, periods, &period.id)?;
-    copy.push(period)?;
-    push_above(&mut copy, periods, &period.id)?;
-    Ok(copy)
-}
-
-/// Appends the periods of silences with lower ids.
-fn push_below(
-    copy: &mut Listing<SilencePeriod>,
-    periods: &[SilencePeriod],
-    id: &SilenceId,
-) -> Result<(), AllocError>
-    ensures { OnOk result (copy.new ≡ copy.old ++ filter (is_below id.now) periods.now) }
-{
-    for period in periods {
-        if period.id < *id {
-            copy.push(*period)?;
-        }
-    }
-    Ok(())
-}
-
-/// Appends the periods of silences with higher ids.
-fn push_above(
-    copy: &mut Listing<SilencePeriod>,
-    periods: &[SilencePeriod],
-    id: &SilenceId,
-) -> Result<(), AllocError>
-    ensures { OnOk result (copy.new ≡ copy.old ++ filter (is_above id.now) periods.now) }
-{
-    for period in periods {
-        if *id < period.id {
-            copy.push(*period)?;
-        }
-    }
-    Ok(())
 }

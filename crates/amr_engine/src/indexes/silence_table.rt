@@ -61,7 +61,7 @@ pub(crate) struct Unexpired {
     pub(crate) listed: Vec<(SilenceId, Silence)>,
 }
 
-ghost use Rattle.amr_engine.specs.Indexes.CachedSilences.{AreCached, AreNoted, AreUnexpired, SameOthers, change_of, changed_ids};
+ghost use Rattle.amr_engine.specs.Indexes.CachedSilences.{AreCached, AreNoted, AreUnexpired, SameOthers, change_of};
 
 impl Model for SilenceTable {
     ghost use Rattle.std.specs.Prelude.{ℕ};
@@ -70,7 +70,7 @@ impl Model for SilenceTable {
     ghost use Rattle.amr_rules.specs.declared.silence.Silence.{Silence};
     ghost use Rattle.std.specs.Ordering.{nat_cmp};
     ghost use Rattle.amr_tables.specs.Numbered.{Numbered, map_of};
-    ghost use Rattle.amr_engine.specs.Indexes.CachedSilences.{AreCached, AreNoted, AreUnexpired, changed_ids};
+    ghost use Rattle.amr_engine.specs.Indexes.CachedSilences.{AreCached, AreNoted, AreUnexpired};
 
     ghost Value = { Numbered ℕ Silence };
 
@@ -79,8 +79,7 @@ impl Model for SilenceTable {
     ghost view = { λ t. t.silences };
 
     ghost invariant = { λ t.
-        AreCached (map_of nat_cmp t.silences) (changed_ids t.changes.items)
-        t.cached.items
+        AreCached (map_of nat_cmp t.silences) t.changes.items t.cached.items
         × AreUnexpired (map_of nat_cmp t.silences) t.unexpired
         × AreNoted (map_of nat_cmp t.silences) t.changes.items };
 }
@@ -233,7 +232,6 @@ impl SilenceTable {
         }
         is_caught_up(
             &mut self.cached[number],
-            self.alloc,
             &mut self.answers,
             &self.silences,
             self.changes.as_slice(),
@@ -397,8 +395,8 @@ fn note_change(
     noted: SilenceChange,
 )
     ensures cached { (before after : Silences) → SameOthers noted.id before after
-        → AreCached before (changed_ids changes.old.items) cached.old.items
-        → AreCached after (changed_ids changes.new.items) cached.new.items }
+        → AreCached before changes.old.items cached.old.items
+        → AreCached after changes.new.items cached.new.items }
     ensures noted { (before after : Silences) → SameOthers noted.id before after
         → noted ≡ change_of noted.id (map.get after noted.id)
         → AreNoted before changes.old.items → AreNoted after changes.new.items }

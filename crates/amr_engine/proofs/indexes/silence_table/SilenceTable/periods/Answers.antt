@@ -1,5 +1,4 @@
 use Rattle.std.proofs.Common.{nat_cmp, ◌≡◌, ◌≤◌, ℕ, length, rules, arith, sym, ap, subst, ◌∙◌}
-use Rattle.std.proofs.lemmas.List.{length-map}
 use Rattle.std.proofs.lemmas.Grind.{common_steps}
 use Rattle.std.proofs.lemmas.Map.Views.{tells_apart}
 use Rattle.amr_labels.specs.Labels.{LabelSet, label_set_cmp-IsAntisymmetric}
@@ -10,8 +9,7 @@ use Rattle.amr_rules.specs.Muting.{silencer_of}
 use Rattle.amr_rules.specs.SilencePeriods.{silenced_in}
 use Rattle.amr_rules.proofs.SilencePeriods.{silencer_in}
 use Rattle.amr_engine.specs.declared.indexes.cached_periods.CachedPeriods.{CachedPeriods}
-use Rattle.amr_engine.specs.declared.indexes.silence_change.SilenceChange.{SilenceChange}
-use Rattle.amr_engine.specs.Indexes.CachedSilences.{changed_ids, AreCached}
+use Rattle.amr_engine.specs.Indexes.CachedSilences.{AreCached}
 use Rattle.amr_engine.proofs.IndexesLemmas.CachedSilences.{all_seen, cached_found}
 use Rattle.amr_engine.proofs.indexes.silence_table.SilenceTable.periods.Goals as goal
 
@@ -21,14 +19,13 @@ returns-in-Some-Some c =
     let at = c.args.at in
     let labels = c.args.labels.now in
     let silences : Silences = map_of nat_cmp t.silences in
-    let ids = changed_ids t.changes.items in
+    let ids = t.changes.items in
     let found = c.in-Some-Some in
     let cached : CachedPeriods = found.cached in
     let own = cached_found silences ids c.deref.result.now c.in_ok-number.field-0 found.field-0 cached
     (subst (AreCached silences ids) (sym c.deref.ensures.value) c.self.invariant.0) found.ensures.lookup found.field-0-is in
     let le : cached.from ≤ at = first_of (search rules, grind (arith, common_steps)) in
     let version : cached.version ≡ length t.changes.items = first_of (omega arith, grind (arith, common_steps)) in
-    ap (silenced_in at) (c.as_slice.ensures ∙ all_seen silences ids cached own (version ∙ sym (length-map t.changes.items (λ (change : SilenceChange). change.id))))
-    ∙ silencer_in at cached.from cached.labels silences le
+    ap (silenced_in at) c.as_slice.ensures ∙ silencer_in at cached.from cached.labels silences cached.periods le (all_seen silences ids cached own version)
     ∙ ap (λ (l : LabelSet). silencer_of at l silences) (tells_apart label_set_cmp-IsAntisymmetric cached.labels labels (sym c.eq.ensures ∙ c.if-eq.true))
     ∙ ap (λ (v : Numbered ℕ Silence). silencer_of at labels (map_of nat_cmp v)) c.self.view_is

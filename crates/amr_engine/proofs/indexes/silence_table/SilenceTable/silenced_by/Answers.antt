@@ -18,4 +18,4 @@ returns-then-next_number-eq0-clause-exactly c =
 pub returns-in-Some-clause-exactly : goal.returns-in-Some-clause-exactly
 returns-in-Some-clause-exactly c =
     is_silenced-named (map_of nat_cmp c.args.self.now) c.args.at c.args.labels.now
-    ∙ ap is_some (sym (c.silenced_in.ensures.first ∙ c.in-Some.ensures))
+    ∙ ap is_some (sym (c.silenced_in.ensures.least ∙ c.in-Some.ensures))
