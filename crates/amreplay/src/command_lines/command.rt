@@ -134,6 +134,7 @@ fn read_text(alloc: Global, version: Version, text: &[u8]) -> ParsedLine
 }
 
 /// Returns whether the bytes are UTF-8.
+#[tactic(auto, using(crate::proofs::CommandLinesLemmas::Utf8::is_text, crate::proofs::CommandLinesLemmas::Utf8::is_no_text))]
 fn is_text(line: &[u8]) -> bool
     ensures { result ≡ is_utf8 line.now }
 {
@@ -210,7 +211,7 @@ fn seek_time(argument: &[u8]) -> ParsedLine
 }
 
 /// Reads a moment, in RFC 3339.
-#[tactic(auto, unfolding(crate::specs::CommandLines::Command::moment_in))]
+#[tactic(auto, using(crate::proofs::CommandLinesLemmas::Utf8::is_text, crate::proofs::CommandLinesLemmas::Utf8::is_no_text), unfolding(crate::specs::CommandLines::Command::moment_in))]
 fn moment(text: &[u8]) -> Option<Moment>
     ensures { result ≡ moment_in text.now }
 {

@@ -22,6 +22,7 @@ use amr_time::Moment;
 use std::alloc::{AllocError, Global};
 
 /// Executes `trial`, which tries an event and changes nothing.
+#[tactic(auto, unfolding(crate::specs::Commands::Replies::reply_to))]
 pub(crate) fn trial(alloc: Global, session: &mut Session, event: &Event) -> Answer
     ensures kept { incident_of session.new ≡ incident_of session.old }
     ensures answered { AnsweredBy session.old session.new (Asks (command.Trial event.now)) result }
@@ -63,6 +64,7 @@ pub(crate) fn move_cursor(alloc: Global, session: &mut Session, movement: Move) 
 
 /// Executes `seek-time`, which moves the cursor after the first events that are all at or before a
 /// moment.
+#[tactic(auto, unfolding(crate::specs::Commands::Replies::reply_to))]
 fn seek_time(alloc: Global, session: &mut Session, at: Moment) -> Answer
     ensures kept { incident_of session.new ≡ incident_of session.old }
     ensures answered { AnsweredBy session.old session.new (Asks (command.Move (SeekTime at)))
@@ -76,6 +78,7 @@ fn seek_time(alloc: Global, session: &mut Session, at: Moment) -> Answer
 }
 
 /// Executes `seek`, which moves the cursor to `to` events from the start.
+#[tactic(auto, unfolding(crate::specs::Commands::Replies::reply_to))]
 fn seek(alloc: Global, session: &mut Session, to: usize) -> Answer
     ensures kept { incident_of session.new ≡ incident_of session.old }
     ensures answered { AnsweredBy session.old session.new (Asks (command.Move (Seek to))) result }
@@ -91,6 +94,7 @@ fn seek(alloc: Global, session: &mut Session, to: usize) -> Answer
 }
 
 /// Executes `back`, which undoes the last event. It takes no memory.
+#[tactic(auto, unfolding(crate::specs::Commands::Replies::reply_to))]
 fn back(session: &mut Session) -> Answer
     ensures kept { incident_of session.new ≡ incident_of session.old }
     ensures answered { AnsweredBy session.old session.new (Asks (command.Move Back)) result }
@@ -105,6 +109,7 @@ fn back(session: &mut Session) -> Answer
 }
 
 /// Executes `step`, which passes the next event.
+#[tactic(auto, using(crate::proofs::CommandsLemmas::EventsPassed::step_passes), unfolding(crate::specs::Commands::Replies::reply_to))]
 fn step(alloc: Global, session: &mut Session) -> Answer
     ensures kept { incident_of session.new ≡ incident_of session.old }
     ensures answered { AnsweredBy session.old session.new (Asks (command.Move Step)) result }
@@ -121,6 +126,7 @@ fn step(alloc: Global, session: &mut Session) -> Answer
 
 /// Returns the answer to a command that moved the cursor from `from`. If memory runs out for its
 /// output, moves the cursor back, which takes no memory.
+#[tactic(auto, using(crate::proofs::CommandsLemmas::EventsPassed::moved_back))]
 fn moved(
     alloc: Global,
     session: &mut Session,
@@ -168,6 +174,7 @@ fn passed_text(
 }
 
 /// Returns the lines of events, given their outcomes; `passed` is how many events come before them.
+#[tactic(auto, using(crate::proofs::CommandsLemmas::EventsPassed::numbered_none))]
 fn numbered_text(
     alloc: Global,
     session: &Session,

@@ -71,6 +71,7 @@ fn prepared_lines(
 }
 
 /// Executes a query.
+#[tactic(auto, unfolding(crate::specs::Commands::Replies::reply_to))]
 pub(crate) fn list(alloc: Global, session: &mut Session, query: &Query) -> Answer
     ensures same { session.new ≡ session.old }
     ensures answered { AnsweredBy session.old session.new (Asks (command.Query query.now)) result }
@@ -84,6 +85,7 @@ pub(crate) fn list(alloc: Global, session: &mut Session, query: &Query) -> Answe
 
 /// Executes `cursor`, which prints the cursor, the number of events, and the clock. It takes no
 /// memory.
+#[tactic(auto, unfolding(crate::specs::Commands::Replies::reply_to))]
 pub(crate) fn position(session: &Session) -> Answer
     ensures { AnsweredBy session.now session.now (Asks command.Cursor) result }
 {

@@ -78,7 +78,7 @@ fn whole_file(alloc: Global) -> Result<Refusal, AllocError>
 }
 
 /// Returns the JSON value that the bytes spell, or `None` if they aren't JSON in UTF-8.
-#[tactic(auto, unfolding(crate::specs::Program::Files::json_of))]
+#[tactic(auto, using(crate::proofs::CommandLinesLemmas::Utf8::is_text, crate::proofs::CommandLinesLemmas::Utf8::is_no_text), unfolding(crate::specs::Program::Files::json_of))]
 fn json(alloc: Global, bytes: &[u8]) -> Result<Option<Value>, AllocError>
     ensures { IfOk result (λ found. option_map view found ≡ json_of bytes.now) }
 {

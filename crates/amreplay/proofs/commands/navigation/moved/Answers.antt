@@ -1,11 +1,7 @@
 use Rattle.std.proofs.Common.{inl, arith}
 use Rattle.amreplay.specs.Commands.Replies.{incident_of}
-use Rattle.amreplay.proofs.CommandsLemmas.EventsPassed.{moved_back, moved_built, passed_fit}
+use Rattle.amreplay.proofs.CommandsLemmas.EventsPassed.{moved_built, passed_fit}
 use Rattle.amreplay.proofs.commands.navigation.moved.Goals as goal
-
-pub returns-then-to-from-clause-moved : goal.returns-then-to-from-clause-moved
-returns-then-to-from-clause-moved c =
-    inl (moved_back (incident_of c.args.session.now) c.args.from c.args.session.now.cursor c.args.word (omega (arith, c.cursor-to.ensures.cursor, c.if-to-from.true)))
 
 pub passed_text-requires-clause-within : goal.passed_text-requires-clause-within
 passed_text-requires-clause-within c =

@@ -1,11 +1,8 @@
 use Rattle.std.proofs.Common.{◌≡◌, ◌+◌, drop, Some, ap, sym, ◌∙◌, ◌++◌, arith, slice_get, string_bytes}
 use Rattle.amr_engine.specs.Outcomes.{outcome_view}
 use Rattle.amreplay.specs.Lines.Printed.{event_lines}
-use Rattle.amreplay.proofs.CommandsLemmas.EventsPassed.{numbered_none, numbered_more, rest_item}
+use Rattle.amreplay.proofs.CommandsLemmas.EventsPassed.{numbered_more, rest_item}
 use Rattle.amreplay.proofs.commands.navigation.numbered_text.Goals as goal
-
-pub loop-outcome-init : goal.loop-outcome-init
-loop-outcome-init c = (omega arith, c.new-text.ensures.bytes ∙ sym (numbered_none (c.args.passed + 1) (drop c.args.passed c.args.session.now.events)))
 
 pub loop-outcome-preserved : goal.loop-outcome-preserved
 loop-outcome-preserved c =
