@@ -1,5 +1,5 @@
 -- Commands that pass events: their lines, one after another, and the cursor after them.
-use Rattle.std.proofs.Common.{◌≡◌, ℕ, zero, suc, ◌+◌, ◌<◌, ◌≤◌, List, [], ◌∷◌, ◌++◌, length, take, drop, map, get_or, Some, slice_get, refl, sym, ap, ◌∙◌, subst, arith, append_assoc, append-nil, length-drop, add-one, String, string_bytes}
+use Rattle.std.proofs.Common.{◌≡◌, ℕ, zero, suc, ◌+◌, ◌<◌, ◌≤◌, List, [], ◌∷◌, ◌++◌, length, take, drop, map, get_or, Some, slice_get, refl, sym, ap, ◌∙◌, arith, append_assoc, append-nil, length-drop, add-one, String, string_bytes}
 use Rattle.std.specs.declared.alloc.Global.{Global}
 use Rattle.std.proofs.lemmas.List.{get_or-drop, length-map, length-take, drop_all}
 use Rattle.std.proofs.lemmas.Option.{slice_get_within, get_or_from_slice_get, slice_get_read}
@@ -15,9 +15,8 @@ use Rattle.amr_engine.specs.Outcomes.{outcome_view}
 use Rattle.amr_replay.specs.Session.{View, at_cursor, state_at, outcomes_of, outcomes_passed}
 use Rattle.amr_replay.proofs.Passed.{told_more}
 use Rattle.amr_replay.proofs.Positions.{item}
-use Rattle.amreplay.specs.Commands.Replies.{Incident, Reply, incident_of, numbered_lines, passing_text, reply_to_move}
-use Rattle.amreplay.specs.Commands.Answer.{left, Moves}
-use Rattle.amreplay.specs.declared.commands.answer.Answer.{Answer}
+use Rattle.amreplay.specs.Commands.Replies.{Incident, Reply, numbered_lines, passing_text, reply_to_move}
+use Rattle.amreplay.specs.Commands.Answer.{left}
 use Rattle.amreplay.specs.declared.commands.answer.Answer.TheVariants.{Built, SoughtBack}
 
 -- there are no lines without outcomes
@@ -87,12 +86,6 @@ step_passes s t from o position view inside outcome new =
     let state : s.state ≡ state_at s.config s.events s.cursor = ap (λ (v : View). v.state) view in
     let one = one_passed s.config s.events s.cursor e.0 o e.1 (outcome e.0 e.1 ∙ ap (λ st. outcome_of st e.0) state) in
     one ∙ ap (λ n. outcomes_passed s.config s.events n (s.cursor + 1)) (sym position) ∙ ap (λ (v : View). outcomes_passed v.config v.events from v.cursor) (sym new)
-
--- the position that was reached is that of the command
-pub moves_from : (s t : View) (word : Word) (from to n : ℕ) (answer : Answer) → from ≡ s.cursor → t ≡ at_cursor s.config s.version s.events to
-    → Moves (incident_of t) from word t.cursor n answer → Moves (incident_of s) s.cursor word to n answer
-moves_from s t word from to n answer position new moves =
-    subst (λ k. Moves (incident_of s) k word to n answer) position (subst (λ (v : View). Moves (incident_of v) from word v.cursor n answer) new moves)
 
 -- the event at a position, among those from n on
 pub rest_item : (es : List Event) (n i : ℕ) (e : Event) → slice_get es (n + i) ≡ Some e → slice_get (drop n es) i ≡ Some e

@@ -1,5 +1,5 @@
 -- The lines of a run, event by event.
-use Rattle.std.proofs.Common.{◌≡◌, ℕ, suc, ◌+◌, ◌<◌, List, [], ◌∷◌, ◌++◌, length, take, Option, Some, Result, Ok, Err, refl, sym, ap, ◌∙◌, append_assoc, append-nil, subst, drop, take-append-drop, length-take, arith}
+use Rattle.std.proofs.Common.{◌≡◌, ℕ, ◌+◌, List, [], ◌∷◌, ◌++◌, length, take, Option, Some, Result, Ok, Err, refl, sym, ap, ◌∙◌, append_assoc, append-nil, subst, drop, take-append-drop, length-take, arith}
 use Rattle.std.proofs.lemmas.Option.{slice_get_within}
 use Rattle.std.specs.List.{slice_get}
 use Rattle.std.specs.Io.KnownBytes.{Appends, Keeps}
@@ -65,11 +65,3 @@ RunLeaves-unflushed a b c config events (Err Memory) left kept =
     let split = run_lines-split config events left.0 in
     record { written = run_lines config (take left.0 events); unwritten = split.0; parts = split.1; appended = Appends-kept a b c _ left.1 kept }
 RunLeaves-unflushed a b c config events (Err fault) left kept = absurd left
-
--- the writer is flushed
-pub RunLeaves-flushed : (a b c : Option Text) (config : Config) (events : List Event) (ended : Result (Unit {0}) Fault)
-    → RunLeaves a b config events ended → Keeps b c → RunLeaves a c config events ended
-RunLeaves-flushed a b c config events (Ok u) left kept = Appends-kept a b c _ left kept
-RunLeaves-flushed a b c config events (Err CannotWrite) left kept = AppendsBeginning-kept a b c _ left kept
-RunLeaves-flushed a b c config events (Err Memory) left kept = (left.0, Appends-kept a b c _ left.1 kept)
-RunLeaves-flushed a b c config events (Err fault) left kept = absurd left

@@ -18,6 +18,7 @@ use std::alloc::Global;
 use std::io::Write;
 
 /// Answers a line, writes the answer, and flushes the writer.
+#[tactic(auto, using(crate::proofs::CommandsLemmas::Answering::answers_flushed))]
 pub(crate) fn answer_line<W: Write>(
     alloc: Global,
     session: &mut Session,
