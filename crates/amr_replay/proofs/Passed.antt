@@ -1,5 +1,5 @@
 -- The outcomes of the events that are passed forward.
-use Rattle.std.proofs.Common.{◌≡◌, ℕ, ◌+◌, ◌<◌, Bool, true, false, List, [], ◌∷◌, ◌++◌, length, take, drop, map, Some, cond, nat_le, refl, sym, ap, ◌∙◌, arith, slice_get, get_or, append_assoc}
+use Rattle.std.proofs.Common.{◌≡◌, ℕ, ◌+◌, ◌<◌, Bool, true, false, List, [], ◌∷◌, ◌++◌, length, take, drop, map, Some, cond, nat_le, refl, sym, ap, ◌∙◌, arith, slice_get, append_assoc}
 use Rattle.std.specs.List.{take_while}
 use Rattle.std.proofs.lemmas.List.{get_or-take, length-take, map-append, at_drop_more}
 use Rattle.std.proofs.lemmas.List.Sums.{take_while-cons}

@@ -30,10 +30,8 @@ view_at c version es n s past = record { config = c; version = version; events =
 -- one event on
 pub at_next : (c : Config) (version : Version) (es : List Event) (n : ℕ) (s s' : State) (past past' : List State) (e : Event) → view_at c version es n s past ≡ at_cursor c version es n → slice_get es n ≡ Some e → s' ≡ after_event s e → past' ≡ past ++ s ∷ [] → view_at c version es (n + 1) s' past' ≡ at_cursor c version es (n + 1)
 at_next c version es n s s' past past' e v at is grown =
-    let same : s ≡ run_of c (take n es) = ap (λ (w : View). w.state) v in
-    let before : past ≡ states_before (start c) (take n es) = ap (λ (w : View). w.past) v in
-    let state : s' ≡ run_of c (take (n + 1) es) = is ∙ ap (λ t. after_event t e) same ∙ sym (run_more c es n e at) in
-    let older : past' ≡ states_before (start c) (take (n + 1) es) = grown ∙ ap (λ t. t ++ s ∷ []) before ∙ ap (λ t. states_before (start c) (take n es) ++ t ∷ []) same ∙ sym (before_more c es n e at) in
+    let state : s' ≡ run_of c (take (n + 1) es) = is ∙ ap (λ (w : View). after_event w.state e) v ∙ sym (run_more c es n e at) in
+    let older : past' ≡ states_before (start c) (take (n + 1) es) = grown ∙ ap (λ (w : View). w.past ++ w.state ∷ []) v ∙ sym (before_more c es n e at) in
     λ i. view_at c version es (n + 1) (state i) (older i)
 
 pub item : (es : List Event) (n : ℕ) → n < length es → (e : Event) × (slice_get es n ≡ Some e)
@@ -43,7 +41,5 @@ item es n h = ⊎_elim (λ w. (w.0, w.2)) (λ w. absurd (omega (arith, w.0))) (s
 pub at_before : (c : Config) (version : Version) (es : List Event) (m n : ℕ) (s s' : State) (past past' : List State) → m ≡ n + 1 → m ≤ length es → view_at c version es m s past ≡ at_cursor c version es m → past ≡ past' ++ s' ∷ [] → view_at c version es n s' past' ≡ at_cursor c version es n
 at_before c version es m n s s' past past' one within v popped =
     let (e, at) = item es n (omega arith) in
-    let before : past ≡ states_before (start c) (take m es) = ap (λ (w : View). w.past) v in
-    let more = ap (λ k. states_before (start c) (take k es)) one ∙ before_more c es n e at in
-    let both = same_from_push past' (states_before (start c) (take n es)) s' (run_of c (take n es)) (sym popped ∙ before ∙ more) in
+    let both = same_from_push past' (states_before (start c) (take n es)) s' (run_of c (take n es)) (sym popped ∙ ap (λ (w : View). w.past) v ∙ ap (λ k. states_before (start c) (take k es)) one ∙ before_more c es n e at) in
     λ i. view_at c version es n (both.1 i) (both.0 i)

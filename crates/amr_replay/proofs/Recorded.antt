@@ -1,16 +1,15 @@
 -- One record for each event before the cursor.
-use Rattle.std.specs.Prelude.{◌≡◌, ℕ, zero, suc, true, ◌+◌, ◌<◌, ◌≤◌, ◌*◌, List, [], ◌∷◌, ◌++◌, length, take, Some, option_map}
+use Rattle.std.specs.Prelude.{◌≡◌, ℕ, zero, suc, ◌+◌, ◌<◌, ◌≤◌, ◌*◌, List, [], ◌∷◌, ◌++◌, length, take, Some, option_map}
 use Rattle.std.specs.List.{slice_get}
-use Rattle.std.proofs.Common.{refl, sym, ap, subst, ◌∙◌, arith, length-take}
+use Rattle.std.proofs.Common.{refl, sym, ap, subst, ◌∙◌, arith, length-take, length-append}
 use Rattle.amr_config.specs.Stated.Config.{Config}
 use Rattle.amr_events.specs.Posts.Reasons.{Reason}
-use Rattle.amr_events.specs.Actions.Events.{Event, is_label}
+use Rattle.amr_events.specs.Actions.Events.{Event}
 use Rattle.amr_engine.specs.declared.state.change.Change.{Change}
 use Rattle.amr_engine.specs.State.State.{State, start}
 use Rattle.amr_engine.specs.State.Records.{put_back}
 use Rattle.amr_engine.specs.State.Steps.{Steps}
 use Rattle.amr_engine.specs.declared.outcome.Outcome as code
-use Rattle.amr_engine.specs.declared.outcome.Outcome.TheVariants as variant
 use Rattle.amr_engine.specs.Outcomes.{outcome_view}
 use Rattle.amr_engine.specs.Kept.{IsEmptyIfRefused, RecordOf}
 use Rattle.amr_engine.specs.Weight.{event_weight}
@@ -36,23 +35,18 @@ records-push s es rs e r h is = absurd h
 
 records-pop : (s : State) (es : List Event) (rs : Records) (e : Event) (r : List Change) → AreRecords s (es ++ e ∷ []) (rs ++ r ∷ []) → AreRecords s es rs
 records-pop s [] [] e r h = tt
-records-pop s [] (q ∷ []) e r h = absurd h.1
-records-pop s [] (q ∷ x ∷ rs) e r h = absurd h.1
-records-pop s (d ∷ []) [] e r h = absurd h.1
-records-pop s (d ∷ x ∷ es) [] e r h = absurd h.1
+records-pop s [] (q ∷ rs) e r h = absurd (omega (arith, length-records s (e ∷ []) (q ∷ (rs ++ r ∷ [])) h, length-append rs (r ∷ [])))
+records-pop s (d ∷ es) [] e r h = absurd (omega (arith, length-records s (d ∷ (es ++ e ∷ [])) (r ∷ []) h, length-append es (e ∷ [])))
 records-pop s (d ∷ es) (q ∷ rs) e r h = (h.0, records-pop (after_event s d) es rs e r h.1)
 
 -- the record of one of the first n events
 pub record_at : (n : ℕ) (s : State) (es : List Event) (rs : Records) (k : ℕ) (e : Event) (m : ℕ) → AreRecords s (take n es) rs → k < n → slice_get es k ≡ Some e → option_map length (slice_get rs k) ≡ Some m
     → HasEntries (after_events s (take k es)) e m
-record_at zero s es rs k e m h before at is = absurd (omega (arith, before))
-record_at (suc n) s [] rs k e m h before at is = absurd (cc)
-record_at (suc n) s (d ∷ es) [] k e m h before at is = absurd h
 record_at (suc n) s (d ∷ es) (r ∷ rs) zero e m h before at is =
     let same : d ≡ e = cc in
-    let long : length r ≡ m = cc in
-    subst (λ x. HasEntries s x m) same (r, h.0, long)
+    subst (λ x. HasEntries s x m) same (r, h.0, cc)
 record_at (suc n) s (d ∷ es) (r ∷ rs) (suc k) e m h before at is = record_at n (after_event s d) es rs k e m h.1 (omega (arith, before)) at is
+record_at n s es rs k e m h before at is = absurd (grind arith)
 
 -- what the engine's contract gives of an event's record
 is_record : (before after : Steps) (e : Event) (o : code.Outcome) (r : List Change) → outcome_view o ≡ outcome_of before.state e → after.state ≡ after_event before.state e → RecordOf before e after o r → IsRecord before.state e r
@@ -64,8 +58,7 @@ is_record before after e o r told is kept = record {
 }
   where
     entryless : (o : code.Outcome) (reason : Reason) → outcome_view o ≡ Refused reason → IsEmptyIfRefused o r → r ≡ []
-    entryless (variant.Accepted moves notes skipped) reason e empty = absurd (cc)
-    entryless (variant.Refused own) reason e empty = empty
+    entryless o reason e empty = grind arith
 
 -- ---- at a cursor
 
@@ -73,23 +66,15 @@ is_record before after e o r told is kept = record {
 pub records_count : (c : Config) (es : List Event) (n : ℕ) (rs : Records) → AreRecords (start c) (take n es) rs → n ≤ length es → length rs ≡ n
 records_count c es n rs h within = omega (arith, length-records (start c) (take n es) rs h, length-take n es)
 
-pub refused_has_none : (s : State) (e : Event) (m : ℕ) (reason : Reason) → HasEntries s e m → outcome_of s e ≡ Refused reason → m ≡ 0
-refused_has_none s e m reason has refused = sym has.2 ∙ ap length (has.1.empty reason refused)
-
-pub label_has_none : (s : State) (e : Event) (m : ℕ) → HasEntries s e m → is_label e.act ≡ true → m ≡ 0
-label_has_none s e m has label = sym has.2 ∙ ap length (has.1.label label)
-
 -- one event on
 pub records_next : (c : Config) (es : List Event) (n : ℕ) (before after : Steps) (e : Event) (o : code.Outcome) (r : List Change) → AreRecords (start c) (take n es) before.records → before.state ≡ state_at c es n
     → slice_get es n ≡ Some e → outcome_view o ≡ outcome_of before.state e → after.state ≡ after_event before.state e → RecordOf before e after o r → AreRecords (start c) (take (n + 1) es) after.records
 records_next c es n before after e o r h here at told is kept =
     let one : IsRecord (state_at c es n) e r = subst (λ s. IsRecord s e r) here (is_record before after e o r told is kept) in
-    let all : AreRecords (start c) (take n es ++ e ∷ []) (before.records ++ r ∷ []) = records-push (start c) (take n es) before.records e r h one in
-    subst (AreRecords (start c) (take (n + 1) es)) (sym kept.added) (subst (λ x. AreRecords (start c) x (before.records ++ r ∷ [])) (sym (front es n e at)) all)
+    rw (kept.added, front es n e at) (records-push (start c) (take n es) before.records e r h one)
 
 -- one event back
 pub records_last : (c : Config) (es : List Event) (m n : ℕ) (rs rs' : Records) (last : List Change) → m ≡ n + 1 → m ≤ length es → AreRecords (start c) (take m es) rs → rs ≡ rs' ++ last ∷ [] → AreRecords (start c) (take n es) rs'
 records_last c es m n rs rs' last one within h popped =
-    let e = item es n (omega (arith, one, within)) in
-    let more : AreRecords (start c) (take (n + 1) es) (rs' ++ last ∷ []) = subst (λ k. AreRecords (start c) (take k es) (rs' ++ last ∷ [])) one (subst (AreRecords (start c) (take m es)) popped h) in
-    records-pop (start c) (take n es) rs' e.0 last (subst (λ x. AreRecords (start c) x (rs' ++ last ∷ [])) (front es n e.0 e.1) more)
+    let (e, at) = item es n (omega (arith, one, within)) in
+    records-pop (start c) (take n es) rs' e last (rw (← front es n e at, ← one, ← popped) h)

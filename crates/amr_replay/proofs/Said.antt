@@ -1,19 +1,18 @@
 -- The outcome of an event and the state after it are what the relations say.
-use Rattle.std.specs.Prelude.{◌≡◌, ◌<◌, ◌≤◌, Bool, true, false, List, [], Option, Some, None, Result, Ok, Err, length, drop, nat_le, if◌then◌else◌}
-use Rattle.std.proofs.Common.{refl, sym, ap, ◌∙◌, subst, arith}
+use Rattle.std.specs.Prelude.{◌≡◌, ◌<◌, ◌≤◌, false, List, [], Option, Some, None, Result, Ok, Err, length, nat_le}
+use Rattle.std.proofs.Common.{refl, ap, subst, arith}
 use Rattle.std.proofs.lemmas.List.{drop_all}
 use Rattle.std.specs.declared.cmp.Ordering.{Ordering}
-use Rattle.std.specs.declared.cmp.Ordering.TheVariants.{Less, Equal, Greater}
+use Rattle.std.specs.declared.cmp.Ordering.TheVariants.{Equal}
 use Rattle.std.specs.Ordering.{is_gt, ordering_reverse}
-use Rattle.std.proofs.lemmas.Bool.{le-leb, lt-leb, leb-true, cond-true, cond-false}
-use Rattle.std.proofs.lemmas.Option.{cond_some}
-use Rattle.amr_time.specs.Time.{Moment}
+use Rattle.std.proofs.lemmas.Bool.{le-leb, lt-leb, cond-true, cond-false}
+use Rattle.std.proofs.lemmas.Bool.Decides.{nat_tests}
 use Rattle.amr_events.specs.Posts.Reasons.{Reason}
 use Rattle.amr_events.specs.Actions.Events.{Event}
 use Rattle.amr_engine.specs.State.State.{State}
 use Rattle.amr_engine.specs.State.Dues.{Due, due_cmp, due_cmp_total, due_cmp-IsAntisymmetric, due_by, least_due, dues, next_due}
 use Rattle.amr_engine.specs.Events.{Accepted, Refused, do_event, outcome_of, outcome_from, after_event, at_moment, move_limit}
-use Rattle.amr_engine.specs.Said.{Does, Refuses, IsIn, IsLeast}
+use Rattle.amr_engine.specs.Said.{IsIn, IsLeast}
 use Rattle.amr_engine.proofs.MovesLaws.{least_due-empty, least_due-IsLeast, Advances-ends, do_within-label, do_within-Does, Does-do_within}
 use Rattle.amr_engine.proofs.Endings.{none_skipped}
 use Rattle.amr_engine.proofs.RefusalLaws.{do_within-Refuses, Refuses-do_within}
@@ -31,39 +30,33 @@ state_is_said s event moves after does = after_done s event moves after (Does-do
 
 pub refused_is_left : RefusedIsLeft
 unfolding after_event
-refused_is_left s event reason refuses =
-    ap (λ (r : Done). elim r [ Ok done ↦ done.1 | Err other ↦ s ]) (Refuses-do_within move_limit s event reason refuses)
+refused_is_left s event reason refuses = rw (Refuses-do_within move_limit s event reason refuses, after_event)
 
 pub refused_is_said : RefusedIsSaid
 unfolding outcome_of
 refused_is_said s event reason = (
-  λ e. by (do_event s event) refl e,
+  λ e. do_within-Refuses move_limit s event reason (by (do_event s event) e),
   λ refuses. ap (outcome_from s event) (Refuses-do_within move_limit s event reason refuses),
 )
   where
-    by : (r : Done) → do_event s event ≡ r → outcome_from s event r ≡ Refused reason → Refuses move_limit s event reason
-    by (Ok done) is e = absurd (cc)
-    by (Err other) is e =
-        let same : other ≡ reason = cc in
-        do_within-Refuses move_limit s event reason (is ∙ ap (λ (x : Reason). Err x) same)
+    by : (r : Done) → outcome_from s event r ≡ Refused reason → r ≡ Err reason
+    by r e = grind arith
 
 pub accepted_is_done : AcceptedIsDone
 unfolding outcome_of
 accepted_is_done s event count notes skipped = (
   λ e. by (do_event s event) refl e,
-  λ d. ap (outcome_from s event) (Does-do_within move_limit s event d.moves (after_event s event) d.does)
-      ∙ (λ i. Accepted (sym d.count_is i) (sym d.notes_are i) (sym d.skipped_are i)),
+  λ d. cc (ap (outcome_from s event) (Does-do_within move_limit s event d.moves (after_event s event) d.does)),
 )
   where
     by : (r : Done) → do_event s event ≡ r → outcome_from s event r ≡ Accepted count notes skipped → IsDone s event count notes skipped
     by (Ok (moves, after)) is e =
         let state : after_event s event ≡ after = after_done s event moves after is in
-        let told : notes ≡ drop (length s.notes) after.notes = cc in
         record {
           moves = moves;
-          does = subst (λ (x : State). Does move_limit s event moves x) (sym state) (do_within-Does move_limit s event moves after is);
+          does = rw state (do_within-Does move_limit s event moves after is);
           count_is = cc;
-          notes_are = told ∙ ap (λ (x : State). drop (length s.notes) x.notes) (sym state);
+          notes_are = cc;
           skipped_are = cc;
         }
     by (Err other) is e = absurd (cc)
@@ -71,17 +64,12 @@ accepted_is_done s event count notes skipped = (
 pub labels_change_nothing : LabelsChangeNothing
 unfolding outcome_of
 labels_change_nothing s event label =
-    let is : do_event s event ≡ Ok ([], s) = do_within-label move_limit s event label in (
-      ap (outcome_from s event) is
-          ∙ (λ i. Accepted 0 (drop_all (length s.notes) s.notes (omega arith) i) (sym (none_skipped (at_moment event.at s) event.act label) i)),
-      after_done s event [] s is,
-    )
+    let is : do_event s event ≡ Ok ([], s) = do_within-label move_limit s event label in
+    (cc (ap (outcome_from s event) is, drop_all (length s.notes) s.notes (omega arith), none_skipped (at_moment event.at s) event.act label), after_done s event [] s is)
 
 -- two that don't go before each other are the same
 alike : (o p : Ordering) → o ≡ ordering_reverse p → is_gt o ≡ false → is_gt p ≡ false → o ≡ Equal
-alike o Less e h k = absurd (cc (ap is_gt e, h))
-alike o Equal e h k = e
-alike o Greater e h k = absurd (cc)
+alike o p e h k = grind arith
 
 one_least : (a b : Due) (list : List Due) → IsLeast a list → IsLeast b list → a ≡ b
 one_least a b list h k =
@@ -89,19 +77,14 @@ one_least a b list h k =
 
 pub next_is_least : NextIsLeast
 unfolding next_due
-next_is_least at s due = (to (least_due (dues s)) refl, from (least_due (dues s)) refl)
+next_is_least at s due = (λ e. let (least, within) = to (least_due (dues s)) e in (least_due-IsLeast (dues s) due least, within), from (least_due (dues s)) refl)
   where
-    to : (o : Option Due) → least_due (dues s) ≡ o → due_by at o ≡ Some due → IsLeast due (dues s) × (due.moment ≤ at)
-    to None is e = absurd (cc)
-    to (Some least) is e =
-        let (within, same) = cond_some (nat_le least.moment at) least due e in
-        subst (λ (x : Due). IsLeast x (dues s) × (x.moment ≤ at)) same (least_due-IsLeast (dues s) least is, leb-true least.moment at within)
+    to : (o : Option Due) → due_by at o ≡ Some due → (o ≡ Some due) × (due.moment ≤ at)
+    to o e = (grind (arith, nat_tests), grind (arith, nat_tests))
 
     from : (o : Option Due) → least_due (dues s) ≡ o → IsLeast due (dues s) × (due.moment ≤ at) → due_by at o ≡ Some due
     from None is h = absurd (subst (IsIn due) (least_due-empty (dues s) is) (h.0.among))
-    from (Some least) is h =
-        let same : due ≡ least = one_least due least (dues s) h.0 (least_due-IsLeast (dues s) least is) in
-        ap (λ (x : Due). due_by at (Some x)) (sym same) ∙ cond-true (nat_le due.moment at) (Some due) None (le-leb due.moment at h.1)
+    from (Some least) is h = rw (← one_least due least (dues s) h.0 (least_due-IsLeast (dues s) least is)) (cond-true (nat_le due.moment at) (Some due) None (le-leb due.moment at h.1))
 
 pub none_is_later : NoneIsLater
 unfolding next_due

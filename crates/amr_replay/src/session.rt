@@ -128,6 +128,7 @@ impl Session {
     }
 
     /// Returns the number of records, one for each event passed. It takes no memory.
+    #[tactic(auto, using(crate::proofs::Recorded::records_count))]
     pub fn records(&self) -> usize
         ensures { result ≡ self.now.cursor }
     {

@@ -1,11 +1,9 @@
 -- Outcomes of events, and a configuration that satisfies the rules.
-use Rattle.std.specs.Prelude.{◌≡◌, ℕ, zero, suc, ◌<◌, true, List, [], ◌∷◌, Option, Some, None, codes, ◌+◌, ◌*◌, map}
+use Rattle.std.specs.Prelude.{◌≡◌, ℕ, zero, suc, true, List, [], ◌∷◌, Option, Some, None, codes, ◌+◌, ◌*◌, map}
 use Rattle.std.proofs.Common.{refl, subst, arith}
 use Rattle.amr_labels.specs.Labels.{Text}
 use Rattle.amr_time.specs.Time.{Moment, second}
-use Rattle.amr_config.specs.Stated.Config.{Config}
 use Rattle.amr_config.specs.Read.Shape.{IsConfig, stated_receiver, is_receiver}
-use Rattle.amr_config.specs.Routing.{parent_of}
 use Rattle.amr_events.specs.Actions.Events.{Event}
 use Rattle.amr_engine.specs.State.State.{start}
 use Rattle.amr_engine.specs.Events.{Outcome, outcome_of, replaying}

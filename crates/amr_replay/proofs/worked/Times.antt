@@ -1,6 +1,6 @@
 -- When notifications come: the wait of a group, old starts, timeouts, given ends, the repeat interval,
 -- and as many moves as one event may make.
-use Rattle.std.specs.Prelude.{◌≡◌, Bool, true, false, List, [], ◌∷◌, Option, Some, None, Ok, Err, codes, ◌+◌, ◌-◌, ◌*◌, map, length}
+use Rattle.std.specs.Prelude.{◌≡◌, Bool, true, false, List, [], ◌∷◌, Some, None, Ok, Err, codes, ◌+◌, ◌-◌, ◌*◌, map, length}
 use Rattle.std.proofs.Common.{refl}
 use Rattle.amr_labels.specs.Map.{entries}
 use Rattle.amr_labels.specs.Labels.{Text, LabelSet}

@@ -1,9 +1,9 @@
-use Rattle.std.proofs.Common.{◌≡◌, ◌<◌, Some, slice_get, ap, subst, arith}
+use Rattle.std.proofs.Common.{◌≡◌, ◌<◌, Some, slice_get, length, sym, ap, ◌∙◌, subst, arith}
 use Rattle.amr_events.specs.Actions.Events.{Event}
 use Rattle.amr_engine.specs.State.State.{start}
 use Rattle.amr_replay.specs.Session.{View, state_at}
 use Rattle.amr_replay.specs.Records.{HasEntries}
-use Rattle.amr_replay.proofs.Recorded.{records_count, record_at, refused_has_none, label_has_none}
+use Rattle.amr_replay.proofs.Recorded.{records_count, record_at}
 use Rattle.amr_replay.proofs.session.Session.record_len.Goals as goal
 
 pub record_len-requires : goal.record_len-requires
@@ -24,7 +24,7 @@ returns-clause-entries c =
     (λ event at. record_at a.cursor (start a.config) a.script.events a.engine.records c.args.index event c.record_len.result c.self.invariant.records before at c.record_len.ensures)
 
 pub returns-clause-refused : goal.returns-clause-refused
-returns-clause-refused c = λ event reason at refused. refused_has_none _ event c.record_len.result reason (returns-clause-entries c event at) refused
+returns-clause-refused c = λ event reason at refused. let has = returns-clause-entries c event at in sym has.2 ∙ ap length (has.1.empty reason refused)
 
 pub returns-clause-label : goal.returns-clause-label
-returns-clause-label c = λ event at label. label_has_none _ event c.record_len.result (returns-clause-entries c event at) label
+returns-clause-label c = λ event at label. let has = returns-clause-entries c event at in sym has.2 ∙ ap length (has.1.label label)

@@ -17,7 +17,4 @@ invariant_of-self-2 c =
     }
 
 pub returns-clause-ok : goal.returns-clause-ok
-returns-clause-ok c =
-    let a = c.self.inside in
-    at_next a.config a.script.version a.script.events a.cursor a.engine.state _ a.engine.past _ c.event-event.result.now c.self.invariant.view c.event-event.ensures c.in_ok-outcome.ensures.state c.in_ok-outcome.ensures.past
-    ∙ ap (λ v. at_cursor v.config v.version v.events (v.cursor + 1)) c.self.view_is
+returns-clause-ok c = (invariant_of-self-2 c).view ∙ ap (λ v. at_cursor v.config v.version v.events (v.cursor + 1)) c.self.view_is

@@ -16,8 +16,4 @@ invariant_of-self c =
     }
 
 pub returns : goal.returns
-returns c =
-    let a = c.self.inside in
-    let some = ap (λ v. v.cursor) c.self.view_is in
-    at_before a.config a.script.version a.script.events a.cursor (a.cursor - 1) a.engine.state _ a.engine.past _ (omega arith) c.self.invariant.within c.self.invariant.view c.undo_last.ensures.past
-    ∙ ap (λ v. at_cursor v.config v.version v.events (v.cursor - 1)) c.self.view_is
+returns c = (invariant_of-self c).view ∙ ap (λ v. at_cursor v.config v.version v.events (v.cursor - 1)) c.self.view_is
