@@ -1,5 +1,5 @@
 -- The outcomes of the events that are passed forward.
-use Rattle.std.proofs.Common.{◌≡◌, ℕ, ◌+◌, ◌<◌, Bool, true, false, List, [], ◌∷◌, ◌++◌, length, take, drop, map, Some, cond, nat_le, refl, sym, ap, ◌∙◌, arith, slice_get, append_assoc}
+use Rattle.std.proofs.Common.{◌≡◌, ℕ, ◌+◌, ◌<◌, Bool, List, [], ◌∷◌, ◌++◌, length, take, drop, map, Some, cond, nat_le, sym, ap, ◌∙◌, arith, slice_get, append_assoc}
 use Rattle.std.specs.List.{take_while}
 use Rattle.std.proofs.lemmas.List.{get_or-take, length-take, map-append, at_drop_more}
 use Rattle.std.proofs.lemmas.List.Sums.{take_while-cons}
@@ -32,8 +32,7 @@ told_more c es n m e told o at before is =
     ∙ ap (λ x. map outcome_view told ++ x) (sym (passed_one c es n m e at before))
 
 count_of : {X : Type 0} (b : Bool) (x : X) (xs : List X) → length (cond b (x ∷ xs) []) ≡ cond b (length xs + 1) 0
-count_of true x xs = omega arith
-count_of false x xs = refl
+count_of b x xs = grind arith
 
 -- the event at n counts if it is at or before the moment, and else the count ends
 pub until_more : (at : Moment) (es : List Event) (n : ℕ) (e : Event) → slice_get es n ≡ Some e → events_until at (drop n es) ≡ cond (nat_le e.at at) (events_until at (drop (n + 1) es) + 1) 0

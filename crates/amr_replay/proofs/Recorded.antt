@@ -3,7 +3,6 @@ use Rattle.std.specs.Prelude.{◌≡◌, ℕ, zero, suc, ◌+◌, ◌<◌, ◌�
 use Rattle.std.specs.List.{slice_get}
 use Rattle.std.proofs.Common.{refl, sym, ap, subst, ◌∙◌, arith, length-take, length-append}
 use Rattle.amr_config.specs.Stated.Config.{Config}
-use Rattle.amr_events.specs.Posts.Reasons.{Reason}
 use Rattle.amr_events.specs.Actions.Events.{Event}
 use Rattle.amr_engine.specs.declared.state.change.Change.{Change}
 use Rattle.amr_engine.specs.State.State.{State, start}
@@ -11,9 +10,9 @@ use Rattle.amr_engine.specs.State.Records.{put_back}
 use Rattle.amr_engine.specs.State.Steps.{Steps}
 use Rattle.amr_engine.specs.declared.outcome.Outcome as code
 use Rattle.amr_engine.specs.Outcomes.{outcome_view}
-use Rattle.amr_engine.specs.Kept.{IsEmptyIfRefused, RecordOf}
+use Rattle.amr_engine.specs.Kept.{RecordOf}
 use Rattle.amr_engine.specs.Weight.{event_weight}
-use Rattle.amr_engine.specs.Events.{Refused, outcome_of, after_event, after_events}
+use Rattle.amr_engine.specs.Events.{outcome_of, after_event, after_events}
 use Rattle.amr_replay.specs.Session.{state_at}
 use Rattle.amr_replay.specs.Records.{IsRecord, AreRecords, HasEntries}
 use Rattle.amr_replay.proofs.Positions.{front, item}
@@ -48,18 +47,6 @@ record_at (suc n) s (d ∷ es) (r ∷ rs) zero e m h before at is =
 record_at (suc n) s (d ∷ es) (r ∷ rs) (suc k) e m h before at is = record_at n (after_event s d) es rs k e m h.1 (omega (arith, before)) at is
 record_at n s es rs k e m h before at is = absurd (grind arith)
 
--- what the engine's contract gives of an event's record
-is_record : (before after : Steps) (e : Event) (o : code.Outcome) (r : List Change) → outcome_view o ≡ outcome_of before.state e → after.state ≡ after_event before.state e → RecordOf before e after o r → IsRecord before.state e r
-is_record before after e o r told is kept = record {
-  back = ap (put_back r) (sym is) ∙ kept.back;
-  empty = λ reason refused. entryless o reason (told ∙ refused) kept.empty;
-  label = kept.label;
-  short = subst (λ s. length r ≤ 4 * event_weight before.state e s) is kept.short;
-}
-  where
-    entryless : (o : code.Outcome) (reason : Reason) → outcome_view o ≡ Refused reason → IsEmptyIfRefused o r → r ≡ []
-    entryless o reason e empty = grind arith
-
 -- ---- at a cursor
 
 -- there are as many records as events before the cursor
@@ -70,8 +57,13 @@ records_count c es n rs h within = omega (arith, length-records (start c) (take 
 pub records_next : (c : Config) (es : List Event) (n : ℕ) (before after : Steps) (e : Event) (o : code.Outcome) (r : List Change) → AreRecords (start c) (take n es) before.records → before.state ≡ state_at c es n
     → slice_get es n ≡ Some e → outcome_view o ≡ outcome_of before.state e → after.state ≡ after_event before.state e → RecordOf before e after o r → AreRecords (start c) (take (n + 1) es) after.records
 records_next c es n before after e o r h here at told is kept =
-    let one : IsRecord (state_at c es n) e r = subst (λ s. IsRecord s e r) here (is_record before after e o r told is kept) in
-    rw (kept.added, front es n e at) (records-push (start c) (take n es) before.records e r h one)
+    let one : IsRecord before.state e r = record {
+      back = ap (put_back r) (sym is) ∙ kept.back;
+      empty = λ reason refused. grind (arith, told, refused, kept.empty);
+      label = kept.label;
+      short = subst (λ s. length r ≤ 4 * event_weight before.state e s) is kept.short;
+    } in
+    rw (kept.added, front es n e at) (records-push (start c) (take n es) before.records e r h (subst (λ s. IsRecord s e r) here one))
 
 -- one event back
 pub records_last : (c : Config) (es : List Event) (m n : ℕ) (rs rs' : Records) (last : List Change) → m ≡ n + 1 → m ≤ length es → AreRecords (start c) (take m es) rs → rs ≡ rs' ++ last ∷ [] → AreRecords (start c) (take n es) rs'

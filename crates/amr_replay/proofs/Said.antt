@@ -1,16 +1,13 @@
 -- The outcome of an event and the state after it are what the relations say.
-use Rattle.std.specs.Prelude.{◌≡◌, ◌<◌, ◌≤◌, false, List, [], Option, Some, None, Result, Ok, Err, length, nat_le}
+use Rattle.std.specs.Prelude.{◌≡◌, ◌<◌, ◌≤◌, List, [], Option, Some, None, Result, Ok, Err, length, nat_le}
 use Rattle.std.proofs.Common.{refl, ap, subst, arith}
 use Rattle.std.proofs.lemmas.List.{drop_all}
-use Rattle.std.specs.declared.cmp.Ordering.{Ordering}
-use Rattle.std.specs.declared.cmp.Ordering.TheVariants.{Equal}
-use Rattle.std.specs.Ordering.{is_gt, ordering_reverse}
 use Rattle.std.proofs.lemmas.Bool.{le-leb, lt-leb, cond-true, cond-false}
 use Rattle.std.proofs.lemmas.Bool.Decides.{nat_tests}
 use Rattle.amr_events.specs.Posts.Reasons.{Reason}
 use Rattle.amr_events.specs.Actions.Events.{Event}
 use Rattle.amr_engine.specs.State.State.{State}
-use Rattle.amr_engine.specs.State.Dues.{Due, due_cmp, due_cmp_total, due_cmp-IsAntisymmetric, due_by, least_due, dues, next_due}
+use Rattle.amr_engine.specs.State.Dues.{Due, due_cmp_total, due_cmp-IsAntisymmetric, due_by, least_due, dues, next_due}
 use Rattle.amr_engine.specs.Events.{Accepted, Refused, do_event, outcome_of, outcome_from, after_event, at_moment, move_limit}
 use Rattle.amr_engine.specs.Said.{IsIn, IsLeast}
 use Rattle.amr_engine.proofs.MovesLaws.{least_due-empty, least_due-IsLeast, Advances-ends, do_within-label, do_within-Does, Does-do_within}
@@ -51,12 +48,11 @@ accepted_is_done s event count notes skipped = (
   where
     by : (r : Done) → do_event s event ≡ r → outcome_from s event r ≡ Accepted count notes skipped → IsDone s event count notes skipped
     by (Ok (moves, after)) is e =
-        let state : after_event s event ≡ after = after_done s event moves after is in
         record {
           moves = moves;
-          does = rw state (do_within-Does move_limit s event moves after is);
+          does = rw (after_done s event moves after is) (do_within-Does move_limit s event moves after is);
           count_is = cc;
-          notes_are = cc;
+          notes_are = cc (after_done s event moves after is);
           skipped_are = cc;
         }
     by (Err other) is e = absurd (cc)
@@ -67,13 +63,9 @@ labels_change_nothing s event label =
     let is : do_event s event ≡ Ok ([], s) = do_within-label move_limit s event label in
     (cc (ap (outcome_from s event) is, drop_all (length s.notes) s.notes (omega arith), none_skipped (at_moment event.at s) event.act label), after_done s event [] s is)
 
--- two that don't go before each other are the same
-alike : (o p : Ordering) → o ≡ ordering_reverse p → is_gt o ≡ false → is_gt p ≡ false → o ≡ Equal
-alike o p e h k = grind arith
-
 one_least : (a b : Due) (list : List Due) → IsLeast a list → IsLeast b list → a ≡ b
 one_least a b list h k =
-    due_cmp-IsAntisymmetric a b (alike (due_cmp a b) (due_cmp b a) (due_cmp_total.antisymm a b) (h.before_all b k.among) (k.before_all a h.among))
+    due_cmp-IsAntisymmetric a b (grind (arith, due_cmp_total.antisymm a b, h.before_all b k.among, k.before_all a h.among))
 
 pub next_is_least : NextIsLeast
 unfolding next_due

@@ -137,6 +137,7 @@ impl Session {
 
     /// Returns the number of entries in the record of an event passed; `index` counts from 0. The
     /// record of a refused event or of a label has none. It takes no memory.
+    #[tactic(auto, using(crate::proofs::Recorded::records_count))]
     pub fn record_len(&self, index: usize) -> usize
         requires { index < self.now.cursor }
         ensures entries { (event : _) → slice_get self.now.events index ≡ Some event →
