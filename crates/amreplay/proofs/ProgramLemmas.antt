@@ -1,5 +1,4 @@
 pub mod Unflushed
-pub mod Stopping
 pub mod FirstPage
 pub mod RunLines
 pub mod Reading

@@ -1,5 +1,5 @@
 -- The answer to a line, from what was done for it and what was written.
-use Rattle.std.proofs.Common.{◌≡◌, ℕ, ◌≤◌, length, refl, sym, ap, subst, inl, inr, ⊎_elim, Option, Result, Ok, Err, MatchResult}
+use Rattle.std.proofs.Common.{◌≡◌, ℕ, ◌≤◌, length, refl, sym, ap, subst, inl, inr, ⊎_elim, arith, Option, Result, Ok, Err, MatchResult}
 use Rattle.std.specs.Io.KnownBytes.{Appends, Keeps}
 use Rattle.std.proofs.KnownBytes.{Appends-kept}
 use Rattle.amr_labels.specs.Labels.{Text}
@@ -8,8 +8,6 @@ use Rattle.amreplay.specs.CommandLines.Line.{longest}
 use Rattle.amreplay.specs.CommandLines.ParsedLine.{LineSays, ReadingTakesMemory, ReadsSuch}
 use Rattle.amreplay.specs.CommandLines.Command.{said_of}
 use Rattle.amreplay.specs.declared.command_lines.command.ParsedLine.{ParsedLine}
-use Rattle.amreplay.specs.declared.command_lines.command.ParsedLine.TheVariants.{Asks, BadArgument}
-use Rattle.amreplay.specs.declared.command_lines.command.Command.TheVariants as command
 use Rattle.amreplay.specs.Commands.Replies.{Incident, Reply, MayFindNoMemory}
 use Rattle.amreplay.specs.Commands.Talk.{Undone, Done, reply, Answers}
 use Rattle.amreplay.specs.Commands.Answer.{Answered, HasLineOutcome, answer_text}
@@ -18,10 +16,7 @@ use Rattle.amreplay.proofs.LinesLemmas.Parts.{AppendsBeginning-all}
 
 -- memory may run out for what takes memory to parse
 reading_may_fail : (i : Incident) (n : ℕ) (parsed : ParsedLine) → ReadingTakesMemory parsed → MayFindNoMemory i n parsed
-reading_may_fail i n (Asks (command.Trial event)) h = tt
-reading_may_fail i n (Asks (command.Query query)) h = tt
-reading_may_fail i n (BadArgument word) h = tt
-reading_may_fail i n parsed h = absurd h
+reading_may_fail i n parsed h = grind arith
 
 -- The line was parsed, and done or undone; or memory ran out for parsing it, and the answer says so.
 pub outcome_read : (i : Incident) (n n' : ℕ) (line : Text) (read : ParsedLine) (answer : Answer) → length line ≤ longest → ReadsSuch (LineSays i.version line) (said_of i.version line) read

@@ -5,7 +5,7 @@ use Rattle.std.proofs.lemmas.List.{map_push}
 use Rattle.std.proofs.lemmas.List.Elements.{All-push, All-nil}
 use Rattle.std.proofs.lemmas.Grind.{flat_map-append}
 use Rattle.std.specs.Io.KnownBytes.{Appends, Consumes}
-use Rattle.std.proofs.KnownBytes.{Appends-nil, Appends-trans, Consumes-trans}
+use Rattle.std.proofs.KnownBytes.{Appends-trans, Consumes-trans}
 use Rattle.amreplay.specs.Lines.CheckedWriter.{AppendsBeginning}
 use Rattle.amreplay.specs.Commands.Replies.{Incident}
 use Rattle.amreplay.specs.Commands.Lines.{with_feed, IsOneLine}
@@ -33,10 +33,6 @@ AllMayBe-append incident cursor (g ∷ hs) h p q = (p.0, AllMayBe-append inciden
 joined : (bytes rest : List ℕ) (lines : List (List ℕ)) → bytes ≡ flat_map with_feed lines ++ rest → bytes ++ 10 ∷ [] ≡ flat_map with_feed (lines ++ rest ∷ []) ++ []
 joined bytes rest lines e =
     ap (λ l. l ++ 10 ∷ []) e ∙ append_assoc (flat_map with_feed lines) rest (10 ∷ []) ∙ sym (ap (λ l. flat_map with_feed lines ++ l) (append-nil (with_feed rest))) ∙ sym (flat_map-append with_feed lines (rest ∷ [])) ∙ sym (append-nil _)
-
-pub Progress-nil : (incident : Incident) (w : Option (List ℕ)) → Progress incident w w [] 0 []
-Progress-nil incident w =
-    record { heard = []; cut = record { whole = refl; each = All-nil _; last = All-nil _ }; may_be = tt; position = refl; written = Appends-nil w }
 
 -- a byte of a line
 pub Progress-more : (incident : Incident) (start now : Option (List ℕ)) (bytes : List ℕ) (cursor : ℕ) (rest : List ℕ) (b : ℕ)

@@ -1,14 +1,6 @@
-use Rattle.std.proofs.Common.{[], ◌∙◌, refl}
-use Rattle.std.proofs.KnownBytes.{Consumes-nil}
+use Rattle.std.proofs.Common.{◌∙◌}
 use Rattle.std.proofs.lemmas.Result.{err_from_is_err_and}
-use Rattle.amreplay.specs.Commands.Replies.{incident_of}
-use Rattle.amreplay.proofs.CommandsLemmas.Talks.{Progress-nil}
 use Rattle.amreplay.proofs.commands.conversation.converse.Goals as goal
-
-pub loop-line-init : goal.loop-line-init
-loop-line-init g c =
-    let new = Progress-nil (incident_of c.args.session.now) (g.W.Write.contents c.args.out.now.writer) in
-    record { stands = (refl, [], Consumes-nil _, ([], rw c.requires new, c.new-line.ensures.empty)); read = refl; written = refl }
 
 pub loop-line-preserved : goal.loop-line-preserved
 loop-line-preserved g c =

@@ -1,4 +1,4 @@
-use Rattle.std.proofs.Common.{◌++◌, inl, inr, ◌∙◌}
+use Rattle.std.proofs.Common.{◌++◌, inl, ◌∙◌}
 use Rattle.std.proofs.lemmas.Result.{err_from_is_err_and}
 use Rattle.std.proofs.KnownBytes.{Consumes-kept, Consumes-trans}
 use Rattle.amreplay.proofs.CommandsLemmas.Talks.{Consumes-nothing}
@@ -11,15 +11,6 @@ returns-in_err-n-clause-turned g c =
       bytes,
       Consumes-kept _ _ _ bytes consumed c.in_err-n.ensures.read.1,
       (_, stands.0, stands.1),
-    ))
-
-pub returns-in_err-finish-clause-turned : goal.returns-in_err-finish-clause-turned
-returns-in_err-finish-clause-turned g c =
-    let p = err_from_is_err_and c.from_residual-in_err-finish.result c.from_residual-in_err-finish.ensures.1 in
-    rw (p.1, p.2) (λ source start bytes consumed stands. (
-      bytes,
-      Consumes-nothing _ _ _ bytes _ _ c.if-n-eq0.true consumed c.in_ok-n.ensures.read.1,
-      inr (c.in_err-finish.ensures.printed start bytes stands),
     ))
 
 pub returns-then-n-eq0-clause-turned : goal.returns-then-n-eq0-clause-turned
