@@ -5,7 +5,7 @@ pub mod Numbering
 pub mod Sorting
 pub mod Present
 pub mod Closing
-pub mod Playing
+pub mod Heaping
 pub mod Queueing
 pub mod Firsts
 pub mod Keying

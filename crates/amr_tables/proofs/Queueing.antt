@@ -1,15 +1,15 @@
 -- A queue of moments with their numbers: what it loses and gains at its ends.
-use Rattle.std.proofs.Common.{◌≡◌, ◌≢◌, ℕ, ◌<◌, ◌-◌, nat_lt, true, List, [], ◌∷◌, ◌++◌, length, Option, Some, None, is_some, refl, subst, arith}
-use Rattle.std.specs.Prelude.{◌⊎◌, slice_get, slice_set, slice_index_or, unwrap_or}
+use Rattle.std.proofs.Common.{◌≡◌, ◌≢◌, ℕ, ◌-◌, nat_lt, false, inr, List, [], ◌∷◌, ◌++◌, length, Option, Some, None, is_some, refl, subst, arith}
+use Rattle.std.specs.Prelude.{◌⊎◌, slice_get, slice_index_or, unwrap_or}
 use Rattle.std.specs.List.{last_or}
 use Rattle.std.specs.Option.{option_to_list}
 use Rattle.std.proofs.Math.Logic.{⊎_map}
 use Rattle.std.proofs.lemmas.Bool.Decides.{nat_tests}
 use Rattle.std.specs.declared.cmp.Ordering.{Ordering}
-use Rattle.amr_tables.specs.declared.earliest.NumberedMoment.{NumberedMoment}
-use Rattle.amr_tables.specs.Tournament.{IsTournament}
-use Rattle.amr_tables.specs.Earliest.{Earliest, changed_back, StandsIn, Stands, IsHeld, IsCurrent, IsOutdated, AreAmong, are_in_order, IsQueue, AreKept}
-use Rattle.amr_tables.proofs.Present.{get_set}
+use Rattle.amr_tables.specs.declared.schedule.NumberedMoment.{NumberedMoment}
+use Rattle.amr_tables.specs.Moments.{is_after}
+use Rattle.amr_tables.specs.Heap.{IsInserted, IsHeap}
+use Rattle.amr_tables.specs.Earliest.{Earliest, changed_back, StandsIn, Stands, IsHeld, IsCurrent, IsOutdated, AreAmong, IsQueue, AreKept}
 
 -- ---- what stands in a queue
 
@@ -47,12 +47,12 @@ module _ (rank : ℕ → ℕ → Ordering) where
   queue_tail (Some s) [] h = tt
   queue_tail (Some s) (x ∷ queue) h = h.1
 
-  queue_longer : (queue : List NumberedMoment) (s : NumberedMoment) → are_in_order rank (last_or None queue) (Some s) ≡ true → IsQueue rank queue → IsQueue rank (queue ++ s ∷ [])
+  queue_longer : (queue : List NumberedMoment) (s : NumberedMoment) → is_after rank (last_or None queue) (Some s) ≡ false → IsQueue rank queue → IsQueue rank (queue ++ s ∷ [])
   queue_longer [] s h is = tt
   queue_longer (x ∷ []) s h is = (h, tt)
   queue_longer (x ∷ y ∷ queue) s h is = (is.0, queue_longer (y ∷ queue) s h is.1)
 
-  queue_earlier : (s : NumberedMoment) (queue : List NumberedMoment) → are_in_order rank (Some s) (slice_get queue 0) ≡ true → IsQueue rank queue → IsQueue rank (s ∷ queue)
+  queue_earlier : (s : NumberedMoment) (queue : List NumberedMoment) → is_after rank (Some s) (slice_get queue 0) ≡ false → IsQueue rank queue → IsQueue rank (s ∷ queue)
   queue_earlier s [] h is = tt
   queue_earlier s (x ∷ queue) h is = (h, is)
 
@@ -66,8 +66,8 @@ module _ (moments : ℕ → Option ℕ) (rank : ℕ → ℕ → Ordering) {e u :
     stands = λ x at. grind (arith, among x at, stands_before u.queue r x, last_is None u.queue x, kept.stands x at, is, out, rest);
   }
 
-  pub first_leaves : e.queue ≡ option_to_list r ++ u.queue → IsOutdated moments (slice_get e.queue 0) → AreKept rank moments e → AreKept rank moments u
-  first_leaves is out kept = record {
+  pub front_leaves : e.queue ≡ option_to_list r ++ u.queue → IsOutdated moments (slice_get e.queue 0) → AreKept rank moments e → AreKept rank moments u
+  front_leaves is out kept = record {
     queue = queue_tail rank r u.queue (subst (IsQueue rank) is kept.queue);
     rest = rw rest kept.rest;
     stands = λ x at. grind (arith, kept.stands x at, is, out, rest, at);
@@ -77,7 +77,7 @@ module _ (moments : ℕ → Option ℕ) (rank : ℕ → ℕ → Ordering) {e u :
 
 module _ (moments : ℕ → Option ℕ) (s : NumberedMoment) (now : IsCurrent moments s) (e u : Earliest) where
   -- it stands now, and so do those of other numbers
-  joins : (rank : ℕ → ℕ → Ordering) → IsQueue rank u.queue → IsTournament rank u.rest → Stands u s → ((x : NumberedMoment) → x.number ≢ s.number → Stands e x → Stands u x) → AreKept rank (changed_back moments s.number None) e → AreKept rank moments u
+  joins : (rank : ℕ → ℕ → Ordering) → IsQueue rank u.queue → IsHeap rank u.rest → Stands u s → ((x : NumberedMoment) → x.number ≢ s.number → Stands e x → Stands u x) → AreKept rank (changed_back moments s.number None) e → AreKept rank moments u
   joins rank sorted played here stood kept = record { queue = sorted; rest = played; stands = λ x at. grind (arith, nat_tests, here, stood x, kept.stands x, at, now) }
 
   -- what stands is the moment, or stood before
@@ -90,19 +90,17 @@ module _ (moments : ℕ → Option ℕ) (s : NumberedMoment) (now : IsCurrent mo
     pub held_last : u.queue ≡ e.queue ++ s ∷ [] → (n : ℕ) → IsHeld u n → IsHeld e n ⊎ (n ≡ s.number)
     held_last queue = held_more (λ x h. grind (arith, stands_before e.queue (Some s) x, queue, rest, h))
 
-    pub kept_last : (rank : ℕ → ℕ → Ordering) → u.queue ≡ e.queue ++ s ∷ [] → are_in_order rank (last_or None e.queue) (Some s) ≡ true → AreKept rank (changed_back moments s.number None) e → AreKept rank moments u
+    pub kept_last : (rank : ℕ → ℕ → Ordering) → u.queue ≡ e.queue ++ s ∷ [] → is_after rank (last_or None e.queue) (Some s) ≡ false → AreKept rank (changed_back moments s.number None) e → AreKept rank moments u
     kept_last rank queue order kept = joins rank (rw queue (queue_longer rank e.queue s order kept.queue)) (rw rest kept.rest) (grind (arith, stands_more e.queue s s, queue)) (λ x apart h. grind (arith, stands_more e.queue s x, queue, rest, h)) kept
 
-    pub kept_first : (rank : ℕ → ℕ → Ordering) → u.queue ≡ s ∷ e.queue → are_in_order rank (Some s) (slice_get e.queue 0) ≡ true → AreKept rank (changed_back moments s.number None) e → AreKept rank moments u
+    pub kept_first : (rank : ℕ → ℕ → Ordering) → u.queue ≡ s ∷ e.queue → is_after rank (Some s) (slice_get e.queue 0) ≡ false → AreKept rank (changed_back moments s.number None) e → AreKept rank moments u
     kept_first rank queue order kept = joins rank (rw queue (queue_earlier rank s e.queue order kept.queue)) (rw rest kept.rest) (grind (arith, queue)) (λ x apart h. grind (arith, queue, rest, h)) kept
 
   -- ---- among the rest
 
-  module _ (queue : u.queue ≡ e.queue) (set : u.rest.moments ≡ slice_set e.rest.moments s.number (Some s.moment)) (room : s.number < length e.rest.moments) where
+  module _ (queue : u.queue ≡ e.queue) (inserted : IsInserted s e.rest u.rest) where
     pub held_rest : (n : ℕ) → IsHeld u n → IsHeld e n ⊎ (n ≡ s.number)
-    held_rest = held_more (λ x h. grind (arith, nat_tests, get_set e.rest.moments s.number (Some s.moment) room x.number, queue, set, h))
+    held_rest = held_more (λ x h. grind (arith, inserted.only x, queue, h))
 
-    pub kept_rest : (rank : ℕ → ℕ → Ordering) → IsTournament rank u.rest → AreKept rank (changed_back moments s.number None) e → AreKept rank moments u
-    kept_rest rank played kept =
-        joins rank (rw queue kept.queue) played (grind (arith, nat_tests, get_set e.rest.moments s.number (Some s.moment) room s.number, set))
-        (λ x apart h. grind (arith, nat_tests, get_set e.rest.moments s.number (Some s.moment) room x.number, queue, set, apart, h)) kept
+    pub kept_rest : (rank : ℕ → ℕ → Ordering) → IsHeap rank u.rest → AreKept rank (changed_back moments s.number None) e → AreKept rank moments u
+    kept_rest rank heap kept = joins rank (rw queue kept.queue) heap (inr inserted.stands) (λ x apart h. ⊎_map (λ h. rw queue h) (inserted.kept x apart) h) kept

@@ -4,5 +4,6 @@ pub mod Numbered
 pub mod Members
 pub mod Grouped
 pub mod Seats
-pub mod Tournament
+pub mod Moments
+pub mod Heap
 pub mod Earliest

@@ -4,20 +4,20 @@
 
 mod earliest;
 mod grouped;
+mod heap;
 mod journal;
 mod key;
 mod keyed;
 mod numbers;
 mod places;
 mod schedule;
-mod tournament;
 mod values;
 
-pub use earliest::{Earliest, NumberedMoment};
+pub use earliest::Earliest;
 pub use grouped::Grouped;
 pub use journal::Journal;
 pub use key::Key;
 pub use keyed::Keyed;
 pub use places::make_place;
-pub use schedule::Schedule;
+pub use schedule::{NumberedMoment, Schedule};
 pub use values::Values;

@@ -14,7 +14,7 @@ use Rattle.amr_labels.specs.Labels.{LabelSet, label_set_cmp_total, label_set_cmp
 use Rattle.amr_rules.specs.Muting.{Alerts}
 use Rattle.amr_time.specs.Time.{Moment}
 use Rattle.amr_tables.proofs.Placing.{value_apart}
-use Rattle.amr_tables.specs.declared.earliest.NumberedMoment.{NumberedMoment}
+use Rattle.amr_tables.specs.declared.schedule.NumberedMoment.{NumberedMoment}
 use Rattle.amr_tables.specs.Places.{value_at}
 use Rattle.amr_tables.specs.Numbered.{Numbered, map_of, has_place, number_of, next_number, key_with, key_at, rank_of, GetsNumber, IsNumber, IsNumbering}
 use Rattle.amr_tables.specs.Earliest.{Earliest, room, changed_back, IsHeld, IsOrdered, IsEarliest}

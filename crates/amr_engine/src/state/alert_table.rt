@@ -165,8 +165,7 @@ impl AlertTable {
     {
         let copy = labels.clone()?;
         let count = count_with_next(&self.alerts)?;
-        let alerts = &self.alerts;
-        self.removals.reserve(&AlertRemovals { alerts }, count)?;
+        self.removals.reserve(count)?;
         self.sources.add(labels.clone()?)?;
         let number = self.alerts.make_place(copy)?;
         Ok(number)
@@ -253,11 +252,14 @@ struct AlertRemovals<'a> {
 }
 
 impl Schedule for AlertRemovals<'_> {
-    ghost use Rattle.amr_labels.specs.Labels.{label_set_cmp};
+    ghost use Rattle.amr_labels.specs.Labels.{label_set_cmp, label_set_cmp_total};
     ghost use Rattle.amr_tables.specs.Numbered.{rank_of};
+    ghost use Rattle.amr_tables.proofs.Keying.{rank_of-total};
     ghost use Rattle.amr_engine.specs.State.Timed.{alert_moment, moments_in};
 
     ghost rank = { λ s. rank_of label_set_cmp s.alerts.now };
+
+    ghost ranked = { λ s. rank_of-total label_set_cmp_total s.alerts.now };
 
     ghost moments = { λ s. moments_in alert_moment s.alerts.now };
 

@@ -26,10 +26,13 @@ pub(crate) struct GroupTimers<'a> {
 
 impl Schedule for GroupTimers<'_> {
     ghost use Rattle.amr_tables.specs.Numbered.{rank_of};
-    ghost use Rattle.amr_config.specs.RouteLabels.{route_labels_cmp};
+    ghost use Rattle.amr_tables.proofs.Keying.{rank_of-total};
+    ghost use Rattle.amr_config.specs.RouteLabels.{route_labels_cmp, route_labels_cmp_total};
     ghost use Rattle.amr_engine.specs.State.Timed.{group_moment, moments_in};
 
     ghost rank = { λ s. rank_of route_labels_cmp s.timers.now };
+
+    ghost ranked = { λ s. rank_of-total route_labels_cmp_total s.timers.now };
 
     ghost moments = { λ s. moments_in (group_moment s.kind) s.timers.now };
 

@@ -309,11 +309,8 @@ impl Roster {
         let key = group.clone()?;
         let count = count_with_next(&self.timers)?;
         self.members.reserve_groups(count)?;
-        let timers = &self.timers;
-        let kind = Kind::GroupFlush;
-        self.flushes.reserve(&GroupTimers { timers, kind }, count)?;
-        let kind = Kind::GroupRemoval;
-        self.removals.reserve(&GroupTimers { timers, kind }, count)?;
+        self.flushes.reserve(count)?;
+        self.removals.reserve(count)?;
         // Groups are flushed in turn. Without room in the queue, their moments take longer.
         drop(self.flushes.reserve_queue());
         let number = self.timers.make_place(key)?;

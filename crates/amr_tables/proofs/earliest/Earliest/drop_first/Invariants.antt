@@ -1,14 +1,17 @@
-use Rattle.std.proofs.Common.{◌≡◌, length}
-use Rattle.amr_tables.specs.declared.earliest.NumberedMoment.{NumberedMoment}
-use Rattle.amr_tables.specs.Earliest.{StandsIn, AreKept}
+use Rattle.std.proofs.Common.{◌≡◌, ℕ}
+use Rattle.amr_tables.specs.Earliest.{Earliest, room, IsHeld, AreKept}
 use Rattle.amr_tables.proofs.earliest.Earliest.drop_first.Given as goal
 
 abbrev pub invariant-loop-self : goal.invariant-loop-self
-invariant-loop-self g l = record {
-  rest : l.self.rest ≡ l.initial.self.rest;
-  queue : (s : NumberedMoment) → StandsIn l.self.queue s → StandsIn l.initial.self.queue s;
-  kept : AreKept (g.S.Schedule.rank l.schedule) (g.S.Schedule.moments l.schedule) l.initial.self → AreKept (g.S.Schedule.rank l.schedule) (g.S.Schedule.moments l.schedule) l.self;
-}
+invariant-loop-self g l =
+    let now : Earliest = record { queue = l.self-inside.queue.items; rest = l.self-inside.rest } in
+    let before : Earliest = record { queue = l.initial.self-inside.queue.items; rest = l.initial.self-inside.rest } in
+    record {
+      queue : now.queue ≡ before.queue;
+      room : room now ≡ room before;
+      held : (n : ℕ) → IsHeld now n → IsHeld before n;
+      kept : AreKept (g.S.Schedule.rank l.schedule) (g.S.Schedule.moments l.schedule) now;
+    }
 
 abbrev pub decreases-loop-self : goal.decreases-loop-self
-decreases-loop-self g l = length l.self.queue
+decreases-loop-self g l = l.self-inside.rest.size

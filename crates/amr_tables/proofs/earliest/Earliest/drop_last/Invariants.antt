@@ -1,6 +1,6 @@
 use Rattle.std.proofs.Common.{◌≡◌, ℕ, Option, length}
 use Rattle.std.specs.declared.cmp.Ordering.{Ordering}
-use Rattle.amr_tables.specs.declared.earliest.NumberedMoment.{NumberedMoment}
+use Rattle.amr_tables.specs.declared.schedule.NumberedMoment.{NumberedMoment}
 use Rattle.amr_tables.specs.Earliest.{StandsIn, AreAmong, AreKept}
 use Rattle.amr_tables.proofs.earliest.Earliest.drop_last.Given as goal
 

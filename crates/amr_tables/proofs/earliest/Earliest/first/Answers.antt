@@ -1,25 +1,28 @@
-use Rattle.std.proofs.Common.{◌∙◌, sym}
-use Rattle.amr_tables.proofs.Firsts.{none_at_all, front_alone, winner_alone, front_first, winner_before}
+use Rattle.std.proofs.Common.{sym, ◌∙◌, arith}
+use Rattle.amr_tables.proofs.Heaping.{after_order}
+use Rattle.amr_tables.proofs.Firsts.{least_is, none_is}
 use Rattle.amr_tables.proofs.earliest.Earliest.first.Goals as goal
 
-pub returns-in-None-None-clause-none : goal.returns-in-None-None-clause-none
-returns-in-None-None-clause-none g c = λ order.
-    none_at_all (g.S.Schedule.rank c.args.schedule.now) order (g.S.Schedule.moments c.args.schedule.now) c.args.self.now c.requires (sym c.front.ensures ∙ c.in-None-None.is-0) (sym c.in-None-None.ensures.number)
+pub returns-then-is_after-clause-some : goal.returns-then-is_after-clause-some
+returns-then-is_after-clause-some g c =
+    let order = after_order (g.S.Schedule.ranked c.args.schedule.now) in
+    let after = sym c.is_after.ensures ∙ c.if-is_after.true in
+    least_is (g.S.Schedule.ranked c.args.schedule.now) (g.S.Schedule.moments c.args.schedule.now) c.args.self.now c.requires _
+    (grind (arith, c.first-first.ensures, c.requires.first))
+    (grind (arith, order.one_way c.front-front.result c.first-first.result after, c.front-front.ensures))
+    (grind (arith, order.one_way c.first-first.result c.first-first.result, c.first-first.ensures))
 
-pub returns-in-None-Some-clause-some : goal.returns-in-None-Some-clause-some
-returns-in-None-Some-clause-some g c = λ order.
-    winner_alone (g.S.Schedule.rank c.args.schedule.now) order (g.S.Schedule.moments c.args.schedule.now) c.args.self.now c.requires c.in-None-Some.winner (sym c.front.ensures ∙ c.in-None-Some.is-0) (sym c.in-None-Some.ensures.number) c.in-None-Some.ensures.moment
+pub returns-else-is_after-clause-some : goal.returns-else-is_after-clause-some
+returns-else-is_after-clause-some g c =
+    let order = after_order (g.S.Schedule.ranked c.args.schedule.now) in
+    least_is (g.S.Schedule.ranked c.args.schedule.now) (g.S.Schedule.moments c.args.schedule.now) c.args.self.now c.requires _
+    (grind (arith, c.front-front.ensures, c.requires.front))
+    (grind (arith, order.one_way c.front-front.result c.front-front.result, c.front-front.ensures))
+    (grind (arith, c.is_after.ensures, c.if-is_after.false, c.first-first.ensures))
 
-pub returns-in-Some-None-clause-some : goal.returns-in-Some-None-clause-some
-returns-in-Some-None-clause-some g c = λ order.
-    front_alone (g.S.Schedule.rank c.args.schedule.now) order (g.S.Schedule.moments c.args.schedule.now) c.args.self.now c.requires c.in-Some-None.front (sym c.in-Some-None.ensures) (sym c.in-Some-None.ensures'.number)
-
-pub returns-then-is_in_order-clause-some : goal.returns-then-is_in_order-clause-some
-returns-then-is_in_order-clause-some g c = λ order.
-    front_first (g.S.Schedule.rank c.args.schedule.now) order (g.S.Schedule.moments c.args.schedule.now) c.args.self.now c.requires c.in-Some-Some.front c.in-Some-Some.winner (sym c.in-Some-Some.ensures) (sym c.in-Some-Some.ensures'.number) c.in-Some-Some.ensures'.moment
-    (sym c.is_in_order.ensures ∙ c.if-is_in_order.true)
-
-pub returns-else-is_in_order-clause-some : goal.returns-else-is_in_order-clause-some
-returns-else-is_in_order-clause-some g c = λ order.
-    winner_before (g.S.Schedule.rank c.args.schedule.now) order (g.S.Schedule.moments c.args.schedule.now) c.args.self.now c.requires c.in-Some-Some.front c.in-Some-Some.winner (sym c.in-Some-Some.ensures) (sym c.in-Some-Some.ensures'.number) c.in-Some-Some.ensures'.moment
-    (sym c.is_in_order.ensures ∙ c.if-is_in_order.false)
+pub returns-else-is_after-clause-none : goal.returns-else-is_after-clause-none
+returns-else-is_after-clause-none g c =
+    let order = after_order (g.S.Schedule.ranked c.args.schedule.now) in
+    none_is (g.S.Schedule.ranked c.args.schedule.now) (g.S.Schedule.moments c.args.schedule.now) c.args.self.now c.requires.kept _
+    (grind (arith, order.one_way c.front-front.result c.front-front.result, c.front-front.ensures))
+    (grind (arith, c.is_after.ensures, c.if-is_after.false, c.first-first.ensures))

@@ -1,22 +1,21 @@
-use Rattle.std.proofs.Common.{◌∙◌, ◌++◌, ◌∷◌, [], None, Some, Option, sym, ap, arith}
+use Rattle.std.proofs.Common.{◌∙◌, ◌++◌, ◌∷◌, [], None, ap, subst, arith}
 use Rattle.std.proofs.Math.Logic.{⊎_map}
-use Rattle.amr_tables.specs.declared.earliest.NumberedMoment.{NumberedMoment}
-use Rattle.amr_tables.specs.Tournament.{Tournament, moment_at}
-use Rattle.amr_tables.specs.Earliest.{Earliest, changed_back, are_in_order}
+use Rattle.amr_tables.specs.Heap.{IsInHeap}
+use Rattle.amr_tables.specs.Earliest.{Earliest, changed_back}
 use Rattle.amr_tables.proofs.Queueing.{held_last, kept_last}
 use Rattle.amr_tables.proofs.Firsts.{held_shorter}
 use Rattle.amr_tables.proofs.earliest.Earliest.insert.Goals as goal
 
-pub returns-then-are_in_order-clause-held : goal.returns-then-are_in_order-clause-held
-returns-then-are_in_order-clause-held g c =
+pub returns-then-not-is_after-clause-held : goal.returns-then-not-is_after-clause-held
+returns-then-not-is_after-clause-held g c =
     held_last (g.S.Schedule.moments c.args.schedule.now) c.args.standing c.requires.current c.args.self.now _ (ap (λ (x : Earliest). x.rest) c.self.view_is)
     (c.push_back_reserved.ensures.items ∙ ap (λ (x : Earliest). x.queue ++ c.args.standing ∷ []) c.self.view_is)
 
-pub returns-then-are_in_order-clause-kept : goal.returns-then-are_in_order-clause-kept
-returns-then-are_in_order-clause-kept g c =
+pub returns-then-not-is_after-clause-kept : goal.returns-then-not-is_after-clause-kept
+returns-then-not-is_after-clause-kept g c =
     kept_last (g.S.Schedule.moments c.args.schedule.now) c.args.standing c.requires.current c.args.self.now _ (ap (λ (x : Earliest). x.rest) c.self.view_is) (g.S.Schedule.rank c.args.schedule.now)
     (c.push_back_reserved.ensures.items ∙ ap (λ (x : Earliest). x.queue ++ c.args.standing ∷ []) c.self.view_is)
-    (ap (λ (o : Option NumberedMoment). are_in_order (g.S.Schedule.rank c.args.schedule.now) o (Some c.args.standing)) (sym c.last.ensures) ∙ sym c.are_in_order.ensures ∙ c.if-are_in_order.true) c.requires.kept
+    (grind (arith, c.last.ensures, c.is_after.ensures, c.if-not-is_after.true)) c.requires.kept
 
 pub insert_before-requires-clause-kept : goal.insert_before-requires-clause-kept
 insert_before-requires-clause-kept g c =
@@ -24,4 +23,4 @@ insert_before-requires-clause-kept g c =
 
 pub returns-clause-held : goal.returns-clause-held
 returns-clause-held g c = λ n held.
-    ⊎_map (held_shorter c.args.self.now c.drop_last.new.self (λ k. ap (λ (t : Tournament). moment_at t k) c.drop_last.ensures.rest) c.drop_last.ensures.queue n) (λ same. same) (c.insert_before.ensures.held n held)
+    ⊎_map (held_shorter c.args.self.now c.drop_last.new.self (λ s. subst (λ h. IsInHeap h s) c.drop_last.ensures.rest) c.drop_last.ensures.queue n) (λ same. same) (c.insert_before.ensures.held n held)
