@@ -21,13 +21,13 @@ IsInHeap heap s = (place : ℕ) × (standing_at heap place ≡ Some s)
 abbrev pub HoldSame : Heap → Heap → Type 0
 HoldSame a b = (s : NumberedMoment) → IsInHeap a s ↔ IsInHeap b s
 
--- Of these, all but those of its number stand in the second, and the new moment.
+-- The second has this moment, and those of the first but for the one of its number.
 pub record IsInserted (standing : NumberedMoment) (before after : Heap) : Type 0 where
   pub stands : IsInHeap after standing
   pub kept : (s : NumberedMoment) → s.number ≢ standing.number → IsInHeap before s → IsInHeap after s
   pub only : (s : NumberedMoment) → IsInHeap after s → (s ≡ standing) ⊎ ((s.number ≢ standing.number) × IsInHeap before s)
 
--- Of these, all but the first stand in the second.
+-- The second has the moments of the first but for the one that is first there.
 pub record IsRemoved (before after : Heap) : Type 0 where
   pub kept : (s : NumberedMoment) → standing_at before 0 ≢ Some s → IsInHeap before s → IsInHeap after s
   pub only : (s : NumberedMoment) → IsInHeap after s → (standing_at before 0 ≢ Some s) × IsInHeap before s
@@ -36,6 +36,7 @@ pub record IsRemoved (before after : Heap) : Type 0 where
 abbrev pub swapped : ℕ → ℕ → ℕ → ℕ
 swapped i j place = if place == i then j else if place == j then i else place
 
+-- the number at a place
 abbrev pub number_at : List NumberedMoment → ℕ → Option ℕ
 number_at entries place = option_map (λ (s : NumberedMoment). s.number) (slice_get entries place)
 

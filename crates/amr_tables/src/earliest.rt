@@ -145,7 +145,7 @@ impl Earliest {
     /// Lets the moment that a number has now stand: at the front of the queue if it is in order
     /// there, else among the rest.
     #[inline(never)]
-    #[tactic(auto, using(crate::proofs::Queueing::kept_first, crate::proofs::Queueing::held_rest))]
+    #[tactic(auto, using(crate::proofs::Queueing::kept_first))]
     fn insert_before<S: Schedule>(&mut self, schedule: &S, standing: NumberedMoment)
         requires room { standing.number < room self.old }
         requires current { IsCurrent (S.moments schedule.now) standing }

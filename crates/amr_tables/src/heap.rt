@@ -151,7 +151,7 @@ impl Heap {
         (last, None)
     }
 
-    /// Changes a moment with those above it, as long as they are after it.
+    /// Lets a moment change places with the one above it, as long as that is after it.
     fn raise<S: Schedule>(&mut self, schedule: &S, place: usize)
         requires within { place < self.old.size }
         requires kept { MayRise (S.rank schedule.now) self.old place }
@@ -170,7 +170,7 @@ impl Heap {
         }
     }
 
-    /// Changes a moment with the first below it, as long as it is after that.
+    /// Lets a moment change places with the first below it, as long as it is after that.
     fn sink<S: Schedule>(&mut self, schedule: &S, place: usize)
         requires { MaySink (S.rank schedule.now) self.old place }
         ensures room { length self.new.entries ≡ length self.old.entries }
@@ -209,7 +209,7 @@ impl Heap {
         }
     }
 
-    /// Lets the numbers at two places change places.
+    /// Lets the entries at two places change places.
     fn swap(&mut self, i: usize, j: usize)
         requires i { i < length self.old.entries }
         requires j { j < length self.old.entries }
