@@ -67,11 +67,11 @@ module _ {K V : Type 0} {R : K → K → Ordering} (o : IsTotalOrder R) (exact :
   }
 
   -- with more room
-  pub scheduled_roomier : (t : Numbered K V) (e f : Earliest) → room e ≤ room f → ((n : ℕ) → IsHeld f n → IsHeld e n) → IsOrdered (rank_of R t) (moments_in moment_of t) f → IsScheduled R moment_of t e → IsScheduled R moment_of t f
-  scheduled_roomier t e f more held ordered is = record {
+  pub scheduled_roomier : (t : Numbered K V) (e f : Earliest) → room e ≤ room f → ((n : ℕ) → IsHeld f n → IsHeld e n) → ((rank : ℕ → ℕ → Ordering) (moments : ℕ → Option Moment) → IsOrdered rank moments e → IsOrdered rank moments f) → IsScheduled R moment_of t e → IsScheduled R moment_of t f
+  scheduled_roomier t e f more held kept is = record {
     named = λ n h. is.named n (held n h);
     room = λ key n at. let less = is.room key n at in omega (arith, less, more);
-    ordered = ordered;
+    ordered = kept (rank_of R t) (moments_in moment_of t) is.ordered;
   }
 
   -- after the value at a number changed, the former moments are in order, if that of this number is changed back
