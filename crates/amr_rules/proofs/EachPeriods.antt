@@ -1,6 +1,6 @@
 -- Asking one silence after the other lists the silences of each label set.
-use Rattle.std.proofs.Common.{◌≡◌, ℕ, suc, ◌+◌, ◌<◌, Bool, false, cond, List, [], ◌∷◌, ◌++◌, map, length, take, set, get_or, sym, ap, ◌∙◌, arith, add-one, append_assoc, append-nil}
-use Rattle.std.specs.List.{fold}
+use Rattle.std.proofs.Common.{◌≡◌, ℕ, suc, ◌+◌, ◌<◌, Bool, false, cond, List, [], ◌∷◌, ◌++◌, map, length, take, set, get_or, arith, add-one}
+use Rattle.std.proofs.lemmas.Grind.{common_steps, take_at_read}
 use Rattle.amr_labels.specs.Labels.{LabelSet}
 use Rattle.amr_labels.specs.Matcher.Candidates.{matches_each}
 use Rattle.amr_time.specs.Time.{Moment}
@@ -9,36 +9,13 @@ use Rattle.amr_rules.specs.declared.silence_period.SilencePeriod.{SilencePeriod}
 use Rattle.amr_rules.specs.Silences.{is_expired_at}
 use Rattle.amr_rules.specs.SilencePeriods.{period_of, added_where, periods_among}
 
--- the periods that label sets have
-abbrev Periods : Type 0
-Periods = LabelSet → List SilencePeriod
-
-module _ (from : Moment) where
-  -- a silence is asked about each label set, unless it is expired
-  abbrev pub with_silence : List LabelSet → List (List SilencePeriod) → ℕ × Silence → List (List SilencePeriod)
-  with_silence label_sets each stored =
-      cond (is_expired_at from stored.1) each (added_where (period_of stored) (matches_each stored.1.matchers label_sets) each)
-
-  -- the periods with those of more silences
-  abbrev with_more : List (ℕ × Silence) → Periods → Periods
-  with_more more periods labels = periods labels ++ periods_among from labels more
-
-  asked : (stored : ℕ × Silence) (periods : Periods) (label_sets : List LabelSet)
-      → with_silence label_sets (map periods label_sets) stored ≡ map (with_more (stored ∷ []) periods) label_sets
-  asked stored periods [] = grind arith
-  asked stored periods (labels ∷ label_sets) = grind (arith, asked stored periods label_sets, append-nil (periods labels), append-nil)
-
-  with_first : (stored : ℕ × Silence) (more : List (ℕ × Silence)) (periods : Periods) (labels : LabelSet)
-      → with_more more (with_more (stored ∷ []) periods) labels ≡ with_more (stored ∷ more) periods labels
-  with_first stored more periods labels = grind (arith, append_assoc (periods labels), append-nil)
-
-  pub asked_all : (listed : List (ℕ × Silence)) (periods : Periods) (label_sets : List LabelSet)
-      → fold (with_silence label_sets) (map periods label_sets) listed ≡ map (with_more listed periods) label_sets
-  asked_all [] periods label_sets = λ i. map (λ labels. sym (append-nil (periods labels)) i) label_sets
-  asked_all (stored ∷ more) periods label_sets =
-      ap (λ each. fold (with_silence label_sets) each more) (asked stored periods label_sets)
-      ∙ asked_all more (with_more (stored ∷ []) periods) label_sets
-      ∙ (λ i. map (λ labels. with_first stored more periods labels i) label_sets)
+-- after one more silence, which is asked about each label set unless it is expired
+pub asked_more : (from : Moment) (listed : List (ℕ × Silence)) (index : ℕ) (stored : ℕ × Silence) → index < length listed → get_or listed index stored ≡ stored → (label_sets : List LabelSet)
+    → cond (is_expired_at from stored.1) (map (λ labels. periods_among from labels (take index listed)) label_sets)
+    (added_where (period_of stored) (matches_each stored.1.matchers label_sets) (map (λ labels. periods_among from labels (take index listed)) label_sets))
+    ≡ map (λ labels. periods_among from labels (take (index + 1) listed)) label_sets
+asked_more from listed index stored lt is [] = grind arith
+asked_more from listed index stored lt is (labels ∷ label_sets) = grind (arith, common_steps, asked_more from listed index stored lt is label_sets, take_at_read listed index stored)
 
 -- ---- one more label set
 

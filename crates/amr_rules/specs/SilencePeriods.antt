@@ -1,7 +1,7 @@
 -- From when to when the silences that match labels mute them, for a question that is asked at many
 -- moments.
-use Rattle.std.specs.Prelude.{◌≡◌, ℕ, Bool, not, ◌&&◌, List, [], ◌∷◌, ◌++◌, if◌then◌else◌, Option, None, Some, map, min, nat_le, nat_lt}
-use Rattle.std.specs.List.{filter, cons_option}
+use Rattle.std.specs.Prelude.{◌≡◌, ◌≤◌, ℕ, Bool, true, false, not, ◌&&◌, List, [], ◌∷◌, ◌++◌, if◌then◌else◌, Option, None, Some, map, nat_le, nat_lt}
+use Rattle.std.specs.List.{filter, list_any, cons_option}
 use Rattle.std.specs.Ordering.{nat_cmp, eq_by_cmp}
 use Rattle.amr_labels.specs.Map.{entries, get}
 use Rattle.amr_labels.specs.Labels.{LabelSet}
@@ -45,20 +45,18 @@ added_where period [] each = each
 abbrev pub covers : Moment → SilencePeriod → Bool
 covers now period = nat_le period.starts_at now && nat_lt now period.ends_at
 
--- the lesser of two ids, or the only one
-abbrev pub lesser_id : Option ℕ → Option ℕ → Option ℕ
-lesser_id None other = other
-lesser_id (Some id) None = Some id
-lesser_id (Some id) (Some other) = Some (min id other)
-
--- the least id of the periods that cover the moment
-abbrev pub silenced_in : Moment → List SilencePeriod → Option ℕ
-silenced_in now [] = None
-silenced_in now (period ∷ periods) = lesser_id (if covers now period then Some period.id else None) (silenced_in now periods)
-
 -- the periods of the silence with this id
 abbrev pub periods_of : ℕ → List SilencePeriod → List SilencePeriod
 periods_of id = filter (λ period. eq_by_cmp nat_cmp id period.id)
+
+-- one of the periods is of the silence with this id and covers the moment
+abbrev pub is_active_in : Moment → List SilencePeriod → ℕ → Bool
+is_active_in now periods id = list_any (covers now) (periods_of id periods)
+
+-- the least id that passes the test, or none if no id does
+abbrev pub IsLeastId : (ℕ → Bool) → Option ℕ → Type 0
+IsLeastId test None = (id : ℕ) → test id ≡ false
+IsLeastId test (Some id) = (test id ≡ true) × ((other : ℕ) → test other ≡ true → id ≤ other)
 
 -- when a silence mutes the labels from a moment on, if it may
 abbrev pub period_from : Moment → LabelSet → ℕ → Option Silence → Option SilencePeriod

@@ -1,6 +1,6 @@
 //! The silences that match one label set, worked out once for all moments from one on. The state
 //! caches them, so that a flush doesn't ask the matchers of every silence again.
-ghost use Rattle.std.specs.Prelude.{◌≡◌, ◌≤◌, ℕ, Some, IfOk};
+ghost use Rattle.std.specs.Prelude.{◌≡◌, ◌≤◌, ℕ, IfOk};
 ghost use Rattle.std.specs.Ordering.{nat_cmp};
 ghost use Rattle.amr_labels.specs.Labels.{LabelSet};
 ghost use Rattle.amr_tables.specs.Numbered.{map_of};
@@ -25,7 +25,7 @@ pub struct SilencePeriod {
     pub ends_at: Moment,
 }
 
-ghost use Rattle.amr_rules.specs.SilencePeriods.{may_silence, period_of, covers, periods_among, silence_periods, silenced_in, lesser_id, unexpired_silences, IsListed};
+ghost use Rattle.amr_rules.specs.SilencePeriods.{may_silence, period_of, covers, periods_among, silence_periods, is_active_in, unexpired_silences, IsLeastId, IsListed};
 
 impl SilencePeriod {
     /// Returns when the silence with this id is active.
@@ -109,9 +109,8 @@ pub fn may_silence(
 
 /// Returns the least id of these periods that a moment is in. That is the silence that mutes the
 /// labels if each silence is listed as `silence_periods` does for them, at this moment or before.
-#[tactic(auto, using(std::proofs::lemmas::Grind::common_steps, crate::proofs::SilencePeriods::lesser_first, crate::proofs::SilencePeriods::lesser_none))]
 pub fn silenced_in(now: Moment, periods: &[SilencePeriod]) -> Option<SilenceId>
-    ensures least { result ≡ silenced_in now periods.now }
+    ensures least { IsLeastId (is_active_in now periods.now) result }
     ensures silencer { (from : Moment) (labels : LabelSet) (silences : Silences) → from ≤ now
         → ((id : ℕ) → IsListed from labels silences periods.now id)
         → result ≡ silencer_of now labels silences }
@@ -119,18 +118,8 @@ pub fn silenced_in(now: Moment, periods: &[SilencePeriod]) -> Option<SilenceId>
     let mut least: Option<SilenceId> = None;
     for period in periods {
         if period.covers(now) {
-            least = Some(lesser(period.id, least));
+            least = Some(least.map_or(period.id, |least| least.min(period.id)));
         }
     }
     least
-}
-
-/// Returns the lesser of two ids, or the only one.
-fn lesser(id: SilenceId, least: Option<SilenceId>) -> SilenceId
-    ensures { Some result ≡ lesser_id least (Some id) }
-{
-    match least {
-        Some(least) if least < id => least,
-        _ => id,
-    }
 }

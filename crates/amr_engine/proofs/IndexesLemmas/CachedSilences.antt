@@ -1,17 +1,15 @@
 -- What the table of silences caches of label sets: nothing at first, then more, and less after
 -- each change of a silence.
-use Rattle.std.proofs.Common.{IfSome, filter_map, Ordering, [], ◌≡◌, ◌≢◌, ◌≤◌, ◌<◌, ◌+◌, ◌==◌, ℕ, true, false, cond, List, ◌∷◌, ◌++◌, length, Bor, Option, Some, None, arith, refl, sym, ap, subst, ◌∙◌, length-append}
+use Rattle.std.proofs.Common.{IfSome, filter_map, [], ◌≡◌, ◌≢◌, ◌≤◌, ◌<◌, ◌+◌, ℕ, List, ◌∷◌, ◌++◌, length, Bor, Option, Some, None, arith, refl, sym, ap, subst, ◌∙◌, length-append}
 use Rattle.std.proofs.lemmas.Bool.Decides.{nat_tests}
 use Rattle.std.proofs.Math.ListN.{get_or-append}
 use Rattle.std.proofs.Math.Seq.{get_or-append_seam}
 use Rattle.std.specs.List.{cons_option}
 use Rattle.std.specs.Slice.{IsItemAt}
 use Rattle.std.proofs.lemmas.List.Elements.{All-nil, All-weaker}
-use Rattle.std.proofs.lemmas.Cmp.{eq_by_cmp_equiv}
-use Rattle.std.specs.Ordering.{is_eq, nat_cmp, eq_by_cmp}
-use Rattle.std.specs.Cmp.{nat_cmp_total, tied_itself}
+use Rattle.std.specs.Ordering.{nat_cmp}
+use Rattle.std.specs.Cmp.{nat_cmp_total}
 use Rattle.std.specs.FinMap.{nat_cmp-IsAntisymmetric}
-use Rattle.std.proofs.lemmas.Bool.{true≢false}
 use Rattle.std.proofs.lemmas.Map.Views.{tells_apart}
 use Rattle.amr_labels.specs.Map.{entries, empty, from_sorted, entries-from_sorted, same_entries_map, get, set, get-set}
 use Rattle.amr_labels.specs.Labels.{LabelSet}
@@ -31,45 +29,34 @@ use Rattle.amr_engine.specs.Indexes.CachedSilences.{change_of, IsUnchanged, AreN
 set_others : (id : ℕ) (old : Silences) (silence : Option Silence) → SameOthers id old (set old id silence)
 set_others id old silence = λ other apart. grind (arith, get-set nat_cmp_total old id silence other, tells_apart nat_cmp-IsAntisymmetric other id)
 
--- and the silence with the id is the one that was set
-set_own : (id : ℕ) (old : Silences) (silence : Option Silence) → get (set old id silence) id ≡ silence
-set_own id old silence = get-set nat_cmp_total old id silence id ∙ ap (λ (o : Ordering). cond (is_eq o) silence (get old id)) (tied_itself nat_cmp_total id)
-
 noted_id : (id : ℕ) (silence : Option Silence) → (change_of id silence).id ≡ id
 noted_id id silence = grind arith
 
 -- what is noted of a silence that is set is so
 pub noted_right : (change : SilenceChange) (id : ℕ) (old changed : Silences) (silence : Option Silence) → change ≡ change_of id silence → changed ≡ set old id silence
     → SameOthers change.id old changed × (change ≡ change_of change.id (get changed change.id))
-noted_right change id old changed silence is set_to = grind (arith, noted_id id silence, set_others id old silence, set_own id old silence)
+noted_right change id old changed silence is set_to = grind (arith, nat_tests, noted_id id silence, set_others id old silence, get-set nat_cmp_total old id silence id)
 
 -- ---- one more change
-
-apart : (id other : ℕ) → eq_by_cmp nat_cmp id other ≡ false → id ≢ other
-apart id other h = λ e. true≢false (sym ((eq_by_cmp_equiv nat_cmp_total).refl id) ∙ ap (eq_by_cmp nat_cmp id) e ∙ h)
 
 -- a silence that didn't change isn't the one that changed last, and didn't change before
 unchanged_before : (changes : List SilenceChange) (change : SilenceChange) (version id : ℕ) → version ≤ length changes → IsUnchanged (changes ++ change ∷ []) version id
     → IsUnchanged changes version id × (id ≢ change.id)
-unchanged_before changes change version id le none =
-    let more : length (changes ++ change ∷ []) ≡ length changes + 1 = length-append changes (change ∷ []) in (
-      λ i one after lt is. none i one after (omega arith) (get_or-append changes (change ∷ []) one i lt ∙ is),
-      apart id change.id (none (length changes) change le (omega arith) (get_or-append_seam changes change [] change)),
-    )
+unchanged_before changes change version id le none = (
+  λ i one after lt is. grind (arith, length-append changes (change ∷ []), get_or-append changes (change ∷ []) one i, none i one),
+  grind (arith, nat_tests, length-append changes (change ∷ []), get_or-append_seam changes change [] change, none (length changes) change),
+)
 
 -- what is cached of silences stays cached, but for the one that changed
 one_less : (old changed : Silences) (changes : List SilenceChange) (change : SilenceChange) → SameOthers change.id old changed → (found : CachedPeriods) → IsCached old changes found
     → IsCached changed (changes ++ change ∷ []) found
-one_less old changed changes change same found was =
-    let more : length (changes ++ change ∷ []) ≡ length changes + 1 = length-append changes (change ∷ []) in
-    let version : found.version ≤ length changes = was.version in
-    record {
-      version = omega arith;
-      bits = was.bits;
-      listed = λ id none.
-          let before = unchanged_before changes change found.version id version none in
-          was.listed id before.0 ∙ ap (λ (silence : Option Silence). cons_option (period_from found.from found.labels id silence) []) (sym (same id before.1));
-    }
+one_less old changed changes change same found was = record {
+  version = omega (arith, was.version, length-append changes (change ∷ []));
+  bits = was.bits;
+  listed = λ id none.
+      let before = unchanged_before changes change found.version id was.version none in
+      was.listed id before.0 ∙ ap (λ (silence : Option Silence). cons_option (period_from found.from found.labels id silence) []) (sym (same id before.1));
+}
 
 still_at : (old changed : Silences) (changes : List SilenceChange) (change : SilenceChange) → SameOthers change.id old changed → (place : Option CachedPeriods) → IfSome place (IsCached old changes)
     → IfSome place (IsCached changed (changes ++ change ∷ []))
@@ -82,18 +69,11 @@ cached_still old changed changes cached change same are_cached = All-weaker _ _ 
 -- what was noted of other silences is so still, and what is noted of this one is so
 pub noted_more : (old changed : Silences) (changes : List SilenceChange) (change : SilenceChange) → SameOthers change.id old changed
     → change ≡ change_of change.id (get changed change.id) → AreNoted old changes → AreNoted changed (changes ++ change ∷ [])
-noted_more old changed changes change same own was =
-    let more : length (changes ++ change ∷ []) ≡ length changes + 1 = length-append changes (change ∷ []) in
-    record {
-      latest = λ i one lt is none.
-          elim (i == length changes) as (λ b. (i == length changes) ≡ b → one ≡ change_of one.id (get changed one.id)) [
-            | true ↦ λ last. grind (arith, nat_tests, last, get_or-append_seam changes change [] one)
-            | false ↦ λ earlier.
-                let before : i < length changes = grind (arith, nat_tests, earlier, lt) in
-                let others = unchanged_before changes change (i + 1) one.id (omega arith) none in
-                was.latest i one before (sym (get_or-append changes (change ∷ []) one i before) ∙ is) others.0 ∙ ap (change_of one.id) (sym (same one.id others.1))
-          ] refl;
-    }
+noted_more old changed changes change same own was = record {
+  latest = λ i one lt is none.
+      let others = λ (before : i < length changes). unchanged_before changes change (i + 1) one.id (omega arith) none in
+      grind (arith, nat_tests, length-append changes (change ∷ []), get_or-append_seam changes change [] one, get_or-append changes (change ∷ []) one i, others, was.latest i one, same one.id);
+}
 
 pub none_noted : (silences : Silences) (changes : List SilenceChange) → changes ≡ [] → AreNoted silences changes
 none_noted silences changes none = record { latest = λ i one lt is later. let before : i < 0 = subst (λ (l : List SilenceChange). i < length l) none lt in absurd (omega arith) }

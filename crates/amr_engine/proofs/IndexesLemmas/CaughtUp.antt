@@ -1,5 +1,5 @@
 -- What is cached of a label set after it has taken in that a silence changed.
-use Rattle.std.proofs.Common.{IfSome, [], ◌≡◌, ◌≤◌, ◌<◌, ◌+◌, ◌==◌, ℕ, Bool, true, false, not, ◌&&◌, List, ◌∷◌, ◌++◌, length, get_or, Option, Some, None, nat_le, nat_lt, arith, refl, sym, ap, subst, ◌∙◌}
+use Rattle.std.proofs.Common.{IfSome, [], ◌≡◌, ◌≤◌, ◌<◌, ◌+◌, ℕ, true, false, if◌then◌else◌, List, ◌∷◌, ◌++◌, length, get_or, Option, Some, None, arith, refl, sym, ap, subst, ◌∙◌}
 use Rattle.std.specs.List.{filter, cons_option}
 use Rattle.std.specs.Ordering.{nat_cmp, eq_by_cmp}
 use Rattle.std.specs.FinMap.{nat_cmp-IsAntisymmetric}
@@ -14,7 +14,7 @@ use Rattle.amr_time.specs.Time.{Moment}
 use Rattle.amr_rules.specs.declared.silence.Silence.{Silence}
 use Rattle.amr_rules.specs.declared.silence_period.SilencePeriod.{SilencePeriod}
 use Rattle.amr_rules.specs.Silences.{Silences}
-use Rattle.amr_rules.specs.SilencePeriods.{period_from, periods_of, IsListed}
+use Rattle.amr_rules.specs.SilencePeriods.{period_from, periods_of}
 use Rattle.amr_engine.specs.declared.indexes.cached_periods.CachedPeriods.{CachedPeriods}
 use Rattle.amr_engine.specs.declared.indexes.silence_change.SilenceChange.{SilenceChange}
 use Rattle.amr_engine.specs.Indexes.CachedSilences.{ends_after, without_silence, noted_period, change_of, may_concern, IsUnchanged, AreNoted, IsCached}
@@ -25,29 +25,18 @@ of_other : (id other : ℕ) → eq_by_cmp nat_cmp id other ≡ false → (period
 of_other id other h [] = refl
 of_other id other h (p ∷ ps) = grind (arith, nat_tests, of_other id other h ps)
 
-of_other_with : (id other : ℕ) (q : Option SilencePeriod) → IfSome q (λ p. p.id ≡ other) → eq_by_cmp nat_cmp id other ≡ false → (periods : List SilencePeriod)
-    → periods_of id (without_silence other periods ++ cons_option q []) ≡ periods_of id periods
-of_other_with id other q own h [] = grind (arith, nat_tests)
-of_other_with id other q own h (p ∷ ps) = grind (arith, nat_tests, of_other_with id other q own h ps)
-
-of_own_with : (id : ℕ) (q : Option SilencePeriod) → IfSome q (λ p. p.id ≡ id) → (periods : List SilencePeriod)
-    → periods_of id (without_silence id periods ++ cons_option q []) ≡ cons_option q []
-of_own_with id q own [] = grind (arith, nat_tests)
-of_own_with id q own (p ∷ ps) = grind (arith, nat_tests, of_own_with id q own ps)
+of_each : (id other : ℕ) (q : Option SilencePeriod) → IfSome q (λ p. p.id ≡ other) → (periods : List SilencePeriod)
+    → periods_of id (without_silence other periods ++ cons_option q []) ≡ (if eq_by_cmp nat_cmp id other then cons_option q [] else periods_of id periods)
+of_each id other q own [] = grind (arith, nat_tests)
+of_each id other q own (p ∷ ps) = grind (arith, nat_tests, of_each id other q own ps)
 
 -- ---- a change of a silence that can't mute the labels
-
-not_both : (from ends : ℕ) (hold marked : Bool) → (hold ≡ true → marked ≡ true) → (marked && nat_lt from ends) ≡ false → (not (nat_le ends from) && hold) ≡ false
-not_both from ends hold marked h e = grind (arith, nat_tests)
 
 -- it has no period that isn't over
 no_period : (from : Moment) (labels : LabelSet) (bits id : ℕ) (found : Option Silence) → bits ≡ value_bits labels → may_concern from bits (change_of id found) ≡ false
     → period_from from labels id found ≡ None
 no_period from labels bits id None marked passed = refl
 no_period from labels bits id (Some silence) marked passed = grind (arith, nat_tests, matching_marked labels silence.matchers)
-
-own_id : (silences : Silences) (change : SilenceChange) (found : CachedPeriods) → IfSome (noted_period silences change found) (λ p. p.id ≡ change.id)
-own_id silences change found = grind arith
 
 -- what is noted of the latest change of a silence leaves out no period
 noted_all : (silences : Silences) (change : SilenceChange) (found : CachedPeriods) → found.bits ≡ value_bits found.labels → change ≡ change_of change.id (get silences change.id)
@@ -57,13 +46,7 @@ noted_all silences change found marked own = grind (arith, own, no_period found.
 -- a silence of which neither a change nor a later one is
 unchanged_from : (changes : List SilenceChange) (version id : ℕ) (change : SilenceChange) → get_or changes version change ≡ change → eq_by_cmp nat_cmp id change.id ≡ false
     → IsUnchanged changes (version + 1) id → IsUnchanged changes version id
-unchanged_from changes version id change is other none i one le lt at =
-    elim (i == version) as (λ b. (i == version) ≡ b → eq_by_cmp nat_cmp id one.id ≡ false) [
-      | true ↦ λ here.
-          let same : i ≡ version = grind (arith, nat_tests, here) in
-          ap (λ (c : SilenceChange). eq_by_cmp nat_cmp id c.id) (sym at ∙ get_or_default changes i one change lt ∙ ap (λ n. get_or changes n change) same ∙ is) ∙ other
-      | false ↦ λ apart. none i one (grind (arith, nat_tests, apart, le)) lt at
-    ] refl
+unchanged_from changes version id change is other none i one le lt at = grind (arith, nat_tests, get_or_default changes i one change, none i one)
 
 -- ---- the next change is taken in
 
@@ -84,16 +67,10 @@ module _ (silences : Silences) (changes : List SilenceChange) (found : CachedPer
     version = omega arith;
     bits = cached.bits;
     listed = λ id none.
-        elim (eq_by_cmp nat_cmp id change.id) as (λ b. eq_by_cmp nat_cmp id change.id ≡ b
-        → IsListed found.from found.labels silences (without_silence change.id found.periods ++ cons_option (noted_period silences change found) []) id) [
-          | true ↦ λ own. subst (λ (n : ℕ). IsListed found.from found.labels silences (without_silence change.id found.periods ++ cons_option (noted_period silences change found) []) n)
-              (sym (tells_apart nat_cmp-IsAntisymmetric id change.id own))
-              (of_own_with change.id (noted_period silences change found) (own_id silences change found) found.periods
-              ∙ ap (λ (q : Option SilencePeriod). cons_option q []) (noted_all silences change found cached.bits
-              (noted_so.latest found.version change more is_change (subst (IsUnchanged changes (found.version + 1)) (tells_apart nat_cmp-IsAntisymmetric id change.id own) none))))
-          | false ↦ λ other. of_other_with id change.id (noted_period silences change found) (own_id silences change found) other found.periods
-              ∙ cached.listed id (unchanged_from changes found.version id change is_change other none)
-        ] refl;
+        let other = λ (o : eq_by_cmp nat_cmp id change.id ≡ false). cached.listed id (unchanged_from changes found.version id change is_change o none) in
+        let same = λ (o : eq_by_cmp nat_cmp id change.id ≡ true). tells_apart nat_cmp-IsAntisymmetric id change.id o in
+        let latest = λ (e : id ≡ change.id). noted_all silences change found cached.bits (noted_so.latest found.version change more is_change (subst (IsUnchanged changes (found.version + 1)) e none)) in
+        grind (arith, nat_tests, of_each id change.id (noted_period silences change found) (grind arith) found.periods, other, same, latest);
   })
 
 -- ---- what has ended is left out

@@ -4,7 +4,7 @@ ghost use Rattle.std.specs.Prelude.{◌≡◌, ◌≤◌, [], map, Some, is_some
 ghost use Rattle.std.specs.Ordering.{nat_cmp};
 ghost use Rattle.amr_labels.specs.Map as map;
 ghost use Rattle.amr_rules.specs.Muting.{is_silenced, silencer_of};
-ghost use Rattle.amr_rules.specs.SilencePeriods.{silence_periods, silenced_in, unexpired_silences};
+ghost use Rattle.amr_rules.specs.SilencePeriods.{silence_periods, is_active_in, unexpired_silences, IsLeastId};
 ghost use Rattle.amr_rules.specs.Silences.{Silences};
 ghost use Rattle.amr_tables.specs.Numbered.{map_of, number_of, KeepsPlaces, SamePlaces};
 
@@ -110,6 +110,7 @@ impl SilenceTable {
     /// Returns the least id of a silence that mutes labels at a moment, or `None` if no silence
     /// does. It asks the silences' matchers only for labels of which it caches nothing at their
     /// number, and lists no silences if there never was one.
+    #[tactic(auto, using(std::proofs::lemmas::Grind::common_steps, crate::proofs::IndexesLemmas::CachedSilences::no_silencer, amr_rules::proofs::MutingLaws::named))]
     pub fn silenced_by(
         &self,
         at: Moment,
@@ -336,8 +337,8 @@ impl SilenceTable {
         number: Option<usize>,
         labels: &Labels,
     ) -> Option<&[SilencePeriod]>
-        ensures { IfSome result (λ periods. silenced_in at periods.now
-            ≡ silencer_of at labels.now (map_of nat_cmp self.now)) }
+        ensures { IfSome result (λ periods. IsLeastId (is_active_in at periods.now)
+            (silencer_of at labels.now (map_of nat_cmp self.now))) }
     {
         let version = self.changes.len();
         match self.cached.get(number?) {

@@ -1,10 +1,13 @@
-use Rattle.std.proofs.Common.{◌≡◌, ◌∙◌, arith}
-use Rattle.std.proofs.lemmas.Grind.{common_steps}
-use Rattle.amr_rules.specs.SilencePeriods.{silenced_in}
-use Rattle.amr_rules.proofs.SilencePeriods.{lesser_none, silencer_in}
+use Rattle.std.proofs.Common.{List, subst}
+use Rattle.std.proofs.lemmas.List.{take_all}
+use Rattle.amr_rules.specs.declared.silence_period.SilencePeriod.{SilencePeriod}
+use Rattle.amr_rules.specs.SilencePeriods.{is_active_in, IsLeastId}
+use Rattle.amr_rules.proofs.SilencePeriods.{one_least, silencer_in}
 use Rattle.amr_rules.proofs.silence_period.silenced_in.Goals as goal
 
+pub returns-clause-least : goal.returns-clause-least
+returns-clause-least c = subst (λ (ps : List SilencePeriod). IsLeastId (is_active_in c.args.now ps) c.loop-period.least) (take_all _ _ c.loop-period-test.false) c.loop-period.invariant
+
 pub returns-clause-silencer : goal.returns-clause-silencer
-returns-clause-silencer c = λ from labels silences le all.
-    let least : c.loop-period.least ≡ silenced_in c.args.now c.args.periods.now = grind (arith, common_steps, lesser_none c.loop-period.least) in
-    least ∙ silencer_in c.args.now from labels silences c.args.periods.now le all
+returns-clause-silencer c = λ from labels silences le listed.
+    one_least _ _ _ (returns-clause-least c) (silencer_in c.args.now from labels silences c.args.periods.now le listed)

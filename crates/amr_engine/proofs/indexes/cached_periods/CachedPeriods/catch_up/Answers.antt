@@ -1,4 +1,4 @@
-use Rattle.std.proofs.Common.{nat_cmp, ◌≡◌, ◌≤◌, ◌<◌, ◌+◌, length, get_or, refl, sym, ap, ◌∙◌, arith}
+use Rattle.std.proofs.Common.{nat_cmp, ◌≡◌, ◌≤◌, ◌<◌, ◌+◌, length, get_or, refl, ap, ◌∙◌, arith}
 use Rattle.amr_tables.specs.Numbered.{map_of}
 use Rattle.amr_engine.specs.declared.indexes.cached_periods.CachedPeriods.{CachedPeriods}
 use Rattle.amr_engine.proofs.IndexesLemmas.CaughtUp.{left_out, left_out_one, caught_up}
@@ -8,22 +8,19 @@ use Rattle.amr_engine.proofs.indexes.cached_periods.CachedPeriods.catch_up.Goals
 pub loop-index-init : goal.loop-index-init
 loop-index-init c =
     let left = c.leave_out_ended.ensures in
-    let from : c.leave_out_ended.new.self.from ≡ c.args.at = ap (λ (k : CachedPeriods). k.from) left in
-    let le : c.leave_out_ended.new.self.from ≤ c.args.at = omega arith in
+    let le : c.leave_out_ended.new.self.from ≤ c.args.at = grind (arith, left) in
     (refl, refl, le, left_out c.args.at (map_of nat_cmp c.args.silences.now) c.args.changes.now c.args.self.now c.leave_out_ended.new.self c.requires.cached c.requires.before left)
 
 more : (c : After-take_in) → c.loop-index.self.version < length c.args.changes.now
 more c = let here = c.loop-index.invariant.0 in let within = c.loop-index-test.true in omega arith
 
 change_is : (c : After-take_in) → get_or c.args.changes.now c.loop-index.self.version c.index-changes-index.result ≡ c.index-changes-index.result
-change_is c = ap (λ n. get_or c.args.changes.now n c.index-changes-index.result) (sym c.loop-index.invariant.0) ∙ sym c.index-changes-index.is
+change_is c = cc (c.loop-index.invariant.0, c.index-changes-index.is)
 
 pub loop-index-preserved : goal.loop-index-preserved
 loop-index-preserved c =
     let taken = c.in_ok-take_in.ensures.ok in
-    let from : c.take_in.new.self.from ≡ c.loop-index.self.from = ap (λ (k : CachedPeriods). k.from) taken in
-    let before : c.loop-index.self.from ≤ c.args.at = c.loop-index.invariant.2 in
-    let le : c.take_in.new.self.from ≤ c.args.at = omega arith in
+    let le : c.take_in.new.self.from ≤ c.args.at = grind (arith, taken, c.loop-index.invariant.2) in
     let at = (goal.at.loop-index-preserved c).After-take_in in (
       refl,
       ap (λ (k : CachedPeriods). k.labels) taken ∙ c.loop-index.invariant.1,
